@@ -1,0 +1,1 @@
+// Theorems about the rules; there is no code here.

@@ -1,0 +1,9 @@
+pub mod Tests
+pub mod Walk
+pub mod Count
+pub mod Order
+pub mod Choice
+pub mod Least
+pub mod Lists
+pub mod Folds
+pub mod Texts
