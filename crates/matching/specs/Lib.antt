@@ -1,0 +1,3 @@
+pub mod Picking
+pub mod Transfer
+pub mod Transfers

@@ -1,0 +1,246 @@
+-- Picking by masks: what a round of the code finds is what a round of the rules does, and what it keeps shows the cells picked so far.
+-- Assumes nothing.
+use mathlib.Core.Path.{_≡_, refl, sym, ap, ap₂, _∙_}
+use mathlib.Core.Logic.{_⊎_, inl, inr, ⊎-elim}
+use mathlib.Core.Bool.{Bool, So, not, _&&_, false≢true}
+use mathlib.Core.List.{List}
+use Prim.Native.Nat.{ℕ, zero, suc, _+_, _-_, _≤_, _<_}
+use native.Mathlib.Omega.{arith}
+use native.Mathlib.Nat.{add-zero, add-suc}
+use lib.Dec.{eqb}
+use lib.ListN.{length, getD, set, length-set}
+use lib.Seq.{ext-getD, getD-set-same, getD-set-other}
+use borrow.Author.Tests.{eqb-true, eqb-false, eq-eqb}
+use Rattle.laws.specs.Tests.{No, passes, refuted, to-no, both, join, denied, deny, same-test}
+use Rattle.laws.specs.Walk.{over, over-more}
+use Rattle.laws.specs.Count.{any, any→, →any}
+use Rattle.laws.specs.Least.{least, least-same, least-at}
+use Rattle.laws.specs.declared.Found.{Found}
+use Rattle.laws.specs.declared.Found.the-variants.{At, Nothing}
+use Rattle.ports.specs.Ports.{has, Added}
+use Rattle.ports.specs.PortLaws.{has-none}
+use Rattle.rules.specs.declared.Input.{Input}
+use Rattle.rules.specs.declared.Cell.{Cell}
+use Rattle.rules.specs.Cells.{free, placed, nth, inputOf, outputOf, isWaiting, sameInput, before}
+use Rattle.rules.specs.Phases.{conflict, isOpen, firstOpen, none, add, addFound, round, matchOf, isTakenInput, isTakenOutput, moved}
+use Rattle.ideal.specs.Cells.{waiting→, conflict→, by-input, by-output, conflict-self, Same, before-same}
+use Rattle.ideal.specs.Match.{in-add, to-add, self-add, open→, taken→, →taken}
+use Rattle.ideal.specs.Phases.{length-moved, moved-yes, moved-no}
+use Rattle.matching.specs.declared.Picked.{Picked}
+
+-- a waiting cell whose input and output are in neither set
+unfoldable pub candidate : (ℕ → Bool) → (ℕ → Bool) → Cell → Bool
+candidate ins outs c = isWaiting c && not (ins (c .input .0)) && not (outs (c .output .0))
+
+-- of those, the one that stands before the others
+unfoldable pub firstCandidate : List ℕ → (ℕ → Bool) → (ℕ → Bool) → List Cell → Found
+firstCandidate r ins outs cs = least (λ k. candidate ins outs (nth cs k)) (λ i j. before r (nth cs i) (nth cs j)) (length cs)
+
+-- every waiting cell's ports are below n
+pub record InPorts (n : ℕ) (cs : List Cell) : Type 0 where
+  pub inputs : (k : ℕ) → k < length cs → nth cs k .place ≡ 1 → nth cs k .input .0 < n
+  pub outputs : (k : ℕ) → k < length cs → nth cs k .place ≡ 1 → nth cs k .output .0 < n
+
+-- us and q become vs and next: record k becomes ready, its ports are taken, its input is noted at its output
+pub record Takes (us : List Cell) (q : Picked) (k : ℕ) (vs : List Cell) (next : Picked) : Type 0 where
+  pub cells : vs ≡ set us k (placed 2 (nth us k))
+  pub inputs : Added (q .taken .inputs) (nth us k .input .0) (next .taken .inputs)
+  pub outputs : Added (q .taken .outputs) (nth us k .output .0) (next .taken .outputs)
+  pub served : next .served ≡ set (q .served) (nth us k .output .0) (nth us k .input .0)
+
+-- us and q show that the records of p were picked from cs: they are ready, their ports are taken, their inputs are noted at their outputs
+pub record Shows (cs : List Cell) (p : ℕ → Bool) (us : List Cell) (q : Picked) : Type 0 where
+  pub cells : us ≡ moved p cs
+  pub inputs : (i : ℕ) → has (q .taken .inputs) i ≡ isTakenInput p cs (inputOf i)
+  pub outputs : (o : ℕ) → has (q .taken .outputs) o ≡ isTakenOutput p cs (outputOf o)
+  pub long : length (q .served) ≡ 16
+  pub served : (k : ℕ) → k < length cs → So (p k) → getD (q .served) (nth cs k .output .0) 0 ≡ nth cs k .input .0
+
+-- What the code's masks say of a record -------------------------------------------------------------
+
+module _ (cs : List Cell) (p : ℕ → Bool) where
+  takenIn→ : (i : Input) → So (isTakenInput p cs i) → (d : ℕ) × (d < length cs) × So (p d) × (nth cs d .input .0 ≡ i .0)
+  unfolding isTakenInput sameInput
+  takenIn→ i h =
+      let d = any→ (λ k. p k && sameInput (nth cs k .input) i) (length cs) h in
+      let b = both (p (d .0)) _ (d .2) in
+      (d .0, d .1, b .0, eqb-true _ _ (b .1))
+
+  →takenIn : (i : Input) (d : ℕ) → d < length cs → So (p d) → nth cs d .input .0 ≡ i .0 → So (isTakenInput p cs i)
+  unfolding isTakenInput sameInput
+  →takenIn i d l x e = →any (λ k. p k && sameInput (nth cs k .input) i) (length cs) d l (join _ _ x (eq-eqb _ _ e))
+
+  -- a record is open where it is a candidate by the taken ports
+  open-masks : (k : ℕ) → k < length cs → No (p k) → isOpen cs p k ≡ candidate (λ i. isTakenInput p cs (inputOf i)) (λ o. isTakenOutput p cs (outputOf o)) (nth cs k)
+  unfolding isOpen candidate
+  open-masks k l x = same-test _ _ to from
+    where
+      to : So (isWaiting (nth cs k) && not (any (λ j. p j && conflict (nth cs j) (nth cs k)) (length cs)))
+          → So (isWaiting (nth cs k) && not (isTakenInput p cs (nth cs k .input)) && not (isTakenOutput p cs (nth cs k .output)))
+      to h =
+          let b = both (isWaiting (nth cs k)) _ h in
+          let clash : (d : ℕ) → d < length cs → So (p d) → So (conflict (nth cs d) (nth cs k)) → ⊥ = λ d i y c. refuted (→any (λ j. p j && conflict (nth cs j) (nth cs k)) (length cs) d i (join _ _ y c)) (denied _ (b .1)) in
+          join _ _ (join _ _ (b .0) (deny _ (to-no (λ y. let d = takenIn→ (nth cs k .input) y in clash (d .0) (d .1) (d .2) (by-input _ _ (d .3))))))
+          (deny _ (to-no (λ y. let d = taken→ cs p (nth cs k .output) y in clash (d .0) (d .1) (d .2) (by-output _ _ (d .3)))))
+
+      from : So (isWaiting (nth cs k) && not (isTakenInput p cs (nth cs k .input)) && not (isTakenOutput p cs (nth cs k .output)))
+          → So (isWaiting (nth cs k) && not (any (λ j. p j && conflict (nth cs j) (nth cs k)) (length cs)))
+      from h =
+          let a = both (isWaiting (nth cs k) && not (isTakenInput p cs (nth cs k .input))) _ h in
+          let b = both (isWaiting (nth cs k)) _ (a .0) in
+          join _ _ (b .0)
+          (deny _ (to-no (λ y.
+          let d = any→ (λ j. p j && conflict (nth cs j) (nth cs k)) (length cs) y in
+          let e = both (p (d .0)) _ (d .2) in
+          ⊎-elim (λ i. refuted (→takenIn (nth cs k .input) (d .0) (d .1) (e .0) i) (denied _ (b .1))) (λ o. refuted (→taken cs p (nth cs k .output) (d .0) (d .1) (e .0) o) (denied _ (a .1))) (conflict→ _ _ (e .1)))))
+
+  -- a picked record is not open, and as a ready one it is no candidate
+  picked-shut : (k : ℕ) → k < length cs → So (p k) → No (isOpen cs p k)
+  picked-shut k l x = to-no (λ h. open→ cs p k h .1 k l x (conflict-self (nth cs k)))
+
+  open-moved : (k : ℕ) → k < length cs → candidate (λ i. isTakenInput p cs (inputOf i)) (λ o. isTakenOutput p cs (outputOf o)) (nth (moved p cs) k) ≡ isOpen cs p k
+  unfolding candidate isWaiting
+  open-moved k l =
+      ⊎-elim
+      (λ x. ap (candidate (λ i. isTakenInput p cs (inputOf i)) (λ o. isTakenOutput p cs (outputOf o))) (moved-yes p cs k l x) ∙ sym (picked-shut k l x))
+      (λ x. ap (candidate (λ i. isTakenInput p cs (inputOf i)) (λ o. isTakenOutput p cs (outputOf o))) (moved-no p cs k l x) ∙ sym (open-masks k l x))
+      (passes (p k))
+
+  moved-same : (k : ℕ) → k < length cs → Same (nth (moved p cs) k) (nth cs k)
+  moved-same k l =
+      ⊎-elim
+      (λ x. rw (moved-yes p cs k l x) (record { input = refl; output = refl; entered = refl; tag = refl }))
+      (λ x. rw (moved-no p cs k l x) (record { input = refl; output = refl; entered = refl; tag = refl }))
+      (passes (p k))
+
+-- Rounds -------------------------------------------------------------------------------------------
+
+-- the cells picked after i rounds
+abbrev pub picks : List ℕ → List Cell → ℕ → ℕ → Bool
+picks r cs i = over (λ j p. round r cs p) none i
+
+module _ (r : List ℕ) (cs : List Cell) where
+  pub picks-more : (i : ℕ) → picks r cs (i + 1) ≡ addFound (picks r cs i) (firstOpen r cs (picks r cs i))
+  unfolding round
+  picks-more i = over-more _ _ i
+
+  stays : (i d : ℕ) → firstOpen r cs (picks r cs i) ≡ Nothing → picks r cs (i + d) ≡ picks r cs i
+  unfolding over round
+  stays i zero h = rw add-zero
+  stays i (suc d) h = rw (add-suc, stays i d h, h)
+
+  -- where a round finds nothing, no later round does
+  pub stops : (i n : ℕ) → i ≤ n → firstOpen r cs (picks r cs i) ≡ Nothing → picks r cs i ≡ matchOf n r cs
+  unfolding matchOf
+  stops i n l h =
+      let q : i + (n - i) ≡ n = omega arith in
+      sym (rw q at (stays i (n - i) h))
+
+  pub picks-all : (n : ℕ) → picks r cs n ≡ matchOf n r cs
+  unfolding matchOf
+  picks-all n = refl
+
+  pub open-found : (p : ℕ → Bool) (k : ℕ) → firstOpen r cs p ≡ At k → (k < length cs) × So (isOpen cs p k)
+  unfolding firstOpen
+  open-found p k e = least-at (isOpen cs p) (λ i j. before r (nth cs i) (nth cs j)) (length cs) k e
+
+candidate-same : (a b c d : ℕ → Bool) → ((i : ℕ) → a i ≡ b i) → ((i : ℕ) → c i ≡ d i) → (x : Cell) → candidate a c x ≡ candidate b d x
+unfolding candidate
+candidate-same a b c d e f x = rw (e (x .input .0), f (x .output .0))
+
+module _ {cs : List Cell} {p : ℕ → Bool} {us : List Cell} {q : Picked} (s : Shows cs p us q) where
+  -- what the scan of the code finds is what the rules' round picks
+  pub finds : (r : List ℕ) → firstCandidate r (has (q .taken .inputs)) (has (q .taken .outputs)) us ≡ firstOpen r cs p
+  unfolding firstCandidate firstOpen
+  finds r =
+      ap (λ (v : List Cell). firstCandidate r (has (q .taken .inputs)) (has (q .taken .outputs)) v) (s .cells)
+      ∙ ap (λ (n : ℕ). least (λ k. candidate (has (q .taken .inputs)) (has (q .taken .outputs)) (nth (moved p cs) k)) (λ i j. before r (nth (moved p cs) i) (nth (moved p cs) j)) n) (length-moved p cs)
+      ∙ least-same _ (isOpen cs p) _ (λ i j. before r (nth cs i) (nth cs j)) (length cs)
+      (λ k l. candidate-same (has (q .taken .inputs)) _ (has (q .taken .outputs)) _ (s .inputs) (s .outputs) (nth (moved p cs) k) ∙ open-moved cs p k l)
+      (λ i j l m. before-same r _ _ _ _ (moved-same cs p i l) (moved-same cs p j m))
+
+  pub cell-same : (k : ℕ) → k < length cs → Same (nth us k) (nth cs k)
+  cell-same k l = rw (s .cells) (moved-same cs p k l)
+
+  pub length-shown : length us ≡ length cs
+  length-shown = ap length (s .cells) ∙ length-moved p cs
+
+-- an open record is waiting, and was so
+pub open-waits : (cs : List Cell) (p : ℕ → Bool) (k : ℕ) → So (isOpen cs p k) → nth cs k .place ≡ 1
+open-waits cs p k h = waiting→ _ (open→ cs p k h .0)
+
+-- one more is picked
+moved-add : (cs : List Cell) (p : ℕ → Bool) (k : ℕ) → k < length cs → set (moved p cs) k (placed 2 (nth (moved p cs) k)) ≡ moved (add p k) cs
+moved-add cs p k l =
+    ext-getD free (set (moved p cs) k (placed 2 (nth (moved p cs) k))) (moved (add p k) cs)
+    (length-set (moved p cs) k _ ∙ length-moved p cs ∙ sym (length-moved (add p k) cs))
+    (λ j h. let m : j < length cs = omega (arith, length-set (moved p cs) k (placed 2 (nth (moved p cs) k)), length-moved p cs) in go j m (passes (eqb j k)))
+  where
+    here : nth (set (moved p cs) k (placed 2 (nth (moved p cs) k))) k ≡ placed 2 (nth cs k)
+    here =
+        getD-set-same (moved p cs) k _ free (rw (length-moved p cs) l)
+        ∙ ⊎-elim (λ x. ap (placed 2) (moved-yes p cs k l x)) (λ x. ap (placed 2) (moved-no p cs k l x)) (passes (p k))
+
+    there : (j : ℕ) → j < length cs → (j ≡ k → ⊥) → nth (moved p cs) j ≡ nth (moved (add p k) cs) j
+    there j m ne =
+        ⊎-elim
+        (λ x. moved-yes p cs j m x ∙ sym (moved-yes (add p k) cs j m (to-add p k j x)))
+        (λ x. moved-no p cs j m x ∙ sym (moved-no (add p k) cs j m (to-no (λ y. ⊎-elim (λ z. refuted z x) ne (in-add p k j y)))))
+        (passes (p j))
+
+    go : (j : ℕ) → j < length cs → So (eqb j k) ⊎ No (eqb j k) → nth (set (moved p cs) k (placed 2 (nth (moved p cs) k))) j ≡ nth (moved (add p k) cs) j
+    go j m (inl x) = let e : j ≡ k = eqb-true j k x in rw e (here ∙ sym (moved-yes (add p k) cs k l (self-add p k)))
+    go j m (inr x) = getD-set-other (moved p cs) k j _ free (eqb-false j k x) ∙ there j m (eqb-false j k x)
+
+-- a set of ports with one more shows the set of records with one more
+added : (m a r : ℕ) (t u : ℕ → Bool) → Added m a r → ((i : ℕ) → has m i ≡ t i) → So (u a) → ((i : ℕ) → So (t i) → So (u i)) → ((i : ℕ) → So (u i) → So (t i) ⊎ (i ≡ a))
+    → (i : ℕ) → has r i ≡ u i
+added m a r t u h e here up down i =
+    ⊎-elim
+    (λ x. let q : i ≡ a = eqb-true i a x in ap (has r) q ∙ h .inside ∙ sym here ∙ ap u (sym q))
+    (λ x. h .others i (eqb-false i a x) ∙ e i ∙ same-test (t i) (u i) (up i) (λ y. ⊎-elim (λ z. z) (λ z. absurd (eqb-false i a x z)) (down i y)))
+    (passes (eqb i a))
+
+module _ {cs : List Cell} {p : ℕ → Bool} {us vs : List Cell} {q next : Picked} (s : Shows cs p us q) (k : ℕ) (l : k < length cs) (o : So (isOpen cs p k)) (t : Takes us q k vs next) where
+  pub shows-add : nth cs k .output .0 < 16 → Shows cs (add p k) vs next
+  shows-add small =
+      record {
+        cells = t .cells ∙ ap (λ (w : List Cell). set w k (placed 2 (nth w k))) (s .cells) ∙ moved-add cs p k l;
+        inputs =
+            added _ _ _ (λ i. isTakenInput p cs (inputOf i)) (λ i. isTakenInput (add p k) cs (inputOf i)) (rw (same .input) at (t .inputs)) (s .inputs)
+            (→takenIn cs (add p k) (nth cs k .input) k l (self-add p k) refl)
+            (λ i x. let d = takenIn→ cs p (inputOf i) x in →takenIn cs (add p k) (inputOf i) (d .0) (d .1) (to-add p k (d .0) (d .2)) (d .3))
+            (λ i x. let d = takenIn→ cs (add p k) (inputOf i) x in ⊎-elim (λ y. inl (→takenIn cs p (inputOf i) (d .0) (d .1) y (d .3))) (λ y. inr (sym (d .3) ∙ ap (λ (j : ℕ). nth cs j .input .0) y)) (in-add p k (d .0) (d .2)));
+        outputs =
+            added _ _ _ (λ i. isTakenOutput p cs (outputOf i)) (λ i. isTakenOutput (add p k) cs (outputOf i)) (rw (same .output) at (t .outputs)) (s .outputs)
+            (→taken cs (add p k) (nth cs k .output) k l (self-add p k) refl)
+            (λ i x. let d = taken→ cs p (outputOf i) x in →taken cs (add p k) (outputOf i) (d .0) (d .1) (to-add p k (d .0) (d .2)) (d .3))
+            (λ i x. let d = taken→ cs (add p k) (outputOf i) x in ⊎-elim (λ y. inl (→taken cs p (outputOf i) (d .0) (d .1) y (d .3))) (λ y. inr (sym (d .3) ∙ ap (λ (j : ℕ). nth cs j .output .0) y)) (in-add p k (d .0) (d .2)));
+        long = ap length noted ∙ length-set (q .served) _ _ ∙ s .long;
+        served = λ j m x. ap (λ (w : List ℕ). getD w (nth cs j .output .0) 0) noted ∙ ⊎-elim (λ y. was j m y) (λ (y : j ≡ k). rw y (getD-set-same (q .served) (nth cs k .output .0) (nth cs k .input .0) 0 (rw (s .long) small))) (in-add p k j x);
+      }
+    where
+      same : Same (nth us k) (nth cs k)
+      same = cell-same s k l
+
+      noted : next .served ≡ set (q .served) (nth cs k .output .0) (nth cs k .input .0)
+      noted = t .served ∙ ap₂ (λ (a b : ℕ). set (q .served) a b) (same .output) (same .input)
+
+      -- an output that was served before is another one
+      was : (j : ℕ) → j < length cs → So (p j) → getD (set (q .served) (nth cs k .output .0) (nth cs k .input .0)) (nth cs j .output .0) 0 ≡ nth cs j .input .0
+      was j m x =
+          getD-set-other (q .served) (nth cs k .output .0) (nth cs j .output .0) (nth cs k .input .0) 0
+          (λ e. open→ cs p k o .1 j m x (by-output (nth cs j) (nth cs k) e))
+          ∙ s .served j m x
+
+-- nothing is picked yet
+pub shows-none : (cs : List Cell) (q : Picked) → q .taken .inputs ≡ 0 → q .taken .outputs ≡ 0 → length (q .served) ≡ 16 → Shows cs none cs q
+unfolding none
+shows-none cs q i o l =
+    record {
+      cells = ext-getD free cs (moved none cs) (sym (length-moved none cs)) (λ k m. sym (moved-no none cs k m refl));
+      inputs = λ a. ap (λ (m : ℕ). has m a) i ∙ has-none a ∙ sym (to-no (λ x. let d = takenIn→ cs none (inputOf a) x in false≢true (d .2)));
+      outputs = λ a. ap (λ (m : ℕ). has m a) o ∙ has-none a ∙ sym (to-no (λ x. let d = taken→ cs none (outputOf a) x in false≢true (d .2)));
+      long = l;
+      served = λ k m x. absurd (false≢true x);
+    }

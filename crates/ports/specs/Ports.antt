@@ -1,0 +1,31 @@
+-- Sets of ports as numbers: port q is in the set m when binary digit q of m is 1.
+-- Assumes nothing.
+use mathlib.Core.Path.{_≡_}
+use mathlib.Core.Bool.{Bool, So}
+use Prim.Native.Nat.{ℕ, _/_, _%_, _^_, _<_}
+use lib.Dec.{eqb}
+use Rattle.laws.specs.Tests.{No}
+
+-- binary digit q of m
+unfoldable pub digit : ℕ → ℕ → ℕ
+digit m q = m / 2 ^ q % 2
+
+-- port q is in the set m
+unfoldable pub has : ℕ → ℕ → Bool
+has m q = eqb (digit m q) 1
+
+-- r is the set m with the port p added
+pub record Added (m p r : ℕ) : Type 0 where
+  pub inside : So (has r p)
+  pub others : (q : ℕ) → (q ≡ p → ⊥) → has r q ≡ has m q
+
+-- r is the set m with the port p taken out
+pub record Removed (m p r : ℕ) : Type 0 where
+  pub outside : No (has r p)
+  pub others : (q : ℕ) → (q ≡ p → ⊥) → has r q ≡ has m q
+
+-- r is the lowest port in the set m
+pub record Lowest (m r : ℕ) : Type 0 where
+  pub small : r < 16
+  pub inside : So (has m r)
+  pub least : (q : ℕ) → q < r → No (has m q)

@@ -1,0 +1,47 @@
+// Sets of ports as 16-bit masks: "the taken inputs and the taken outputs are two sets of ports". Port q is in the set when binary digit q is 1.
+ghost use mathlib.Core.Path.{_≡_};
+ghost use mathlib.Core.Bool.{true};
+ghost use Prim.Native.Nat.{_<_};
+ghost use Rattle.laws.specs.Count.{count};
+ghost use Rattle.ports.specs.Ports.{has, Added, Removed, Lowest};
+
+// Whether the port is in the set. No port from 16 on is in one, and a mask cannot be shifted by so much.
+pub fn holds(mask: u16, port: u32) -> bool
+    ensures { λ r. ⌜ r ≡ has mask port ⌝ }
+{
+    if 16 <= port {
+        return false;
+    }
+    (mask >> port) & 1 == 1
+}
+
+// The set and one more port; a port that is in it already stays.
+pub fn with(mask: u16, port: u32) -> u16
+    requires { ⌜ port < 16 ⌝ }
+    ensures { λ r. ⌜ Added mask port r ⌝ }
+{
+    mask | (1u16 << port)
+}
+
+// The set with a port of it taken out.
+pub fn without(mask: u16, port: u32) -> u16
+    requires { ⌜ (port < 16) × (has mask port ≡ true) ⌝ }
+    ensures { λ r. ⌜ Removed mask port r ⌝ }
+{
+    mask - (1u16 << port)
+}
+
+// How many ports are in the set.
+pub fn size(mask: u16) -> u32
+    ensures { λ r. ⌜ r ≡ count (has mask) 16 ⌝ }
+{
+    u16::count_ones(mask)
+}
+
+// The lowest port of a set that is not empty.
+pub fn lowest(mask: u16) -> u32
+    requires { ⌜ 0 < mask ⌝ }
+    ensures { λ r. ⌜ Lowest mask r ⌝ }
+{
+    u16::trailing_zeros(mask)
+}

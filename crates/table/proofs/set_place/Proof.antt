@@ -1,0 +1,28 @@
+-- One store; the other four words of the record stay.
+use native.Mathlib.Omega.{arith}
+use Rattle.rules.specs.Cells.{records}
+use Rattle.table.specs.Table.{stored-place}
+use borrow.Author.Needs.{needs}
+use Rattle.table.proofs.set_place.Statement.{statement}
+use Rattle.table.proofs.set_place.Tie as tie
+
+mul-table : tie.Need-mul-table
+unfolding records
+mul-table c = omega arith
+
+mul-table-2 : tie.Need-mul-table-2
+unfolding records
+mul-table-2 c = omega arith
+
+slice-write-table : tie.Need-slice-write-table
+unfolding records
+slice-write-table c = omega arith
+
+same-length : tie.Need-same-length
+same-length c = search needs
+
+returns : tie.Need-returns
+returns c = stored-place _ _ _ (c .pre)
+
+pub set-place-spec : {M : Type 1} → statement M
+set-place-spec = tie.close (tie.spec mul-table mul-table-2 slice-write-table same-length returns)

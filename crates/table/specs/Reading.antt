@@ -1,0 +1,81 @@
+-- The reading, counted record by record.
+-- Assumes nothing.
+use Prim.Native.Nat.{ℕ, _+_, _≤_, _<_}
+use mathlib.Core.Path.{_≡_, refl, sym, ap, _∙_}
+use mathlib.Core.Logic.{⊎-elim}
+use mathlib.Core.Bool.{Bool, true, false, cond}
+use mathlib.Core.List.{List}
+use native.Mathlib.Omega.{arith}
+use native.Mathlib.Numerals.{add-one}
+use lib.Dec.{eqb, ltb}
+use lib.ListN.{length, getD, set, replicate, getD-replicate, List·getD-eq-default}
+use lib.Seq.{ext-getD}
+use borrow.Author.Tests.{eqb-true, eqb-false, eq-eqb, ne-eqb, ltb-true, ltb-false}
+use Rattle.laws.specs.Tests.{No, both, passes, to-no}
+use Rattle.laws.specs.Count.{bit, count, count-zero, count-suc, count-le}
+use Rattle.laws.specs.Lists.{tabulate, length-tabulate, getD-tabulate, tabulate-same, tabulate-getD, set-tabulate}
+use Rattle.rules.specs.declared.Cell.{Cell}
+use Rattle.rules.specs.Cells.{mostPorts, outputOf, nth, isReady, sameOutput, isReadyFor}
+use Rattle.rules.specs.Phases.{readyCount, readings}
+
+-- one more for each output that c is ready for
+unfoldable pub bumped : List ℕ → Cell → List ℕ
+bumped ns c = tabulate mostPorts (λ o. bit (isReadyFor (outputOf o) c) + getD ns o 0)
+
+module _ (ns : List ℕ) (e : length ns ≡ mostPorts) (c : Cell) where
+  -- a cell that no output's unit holds ready changes no count
+  bump-none : ((o : ℕ) → o < mostPorts → No (isReadyFor (outputOf o) c)) → ns ≡ bumped ns c
+  unfolding bumped
+  bump-none h = sym (tabulate-same 0 _ (λ o. getD ns o 0) mostPorts (λ o l. rw (h o l) (omega arith)) ∙ rw e at (tabulate-getD 0 ns))
+
+  pub not-ready : (c .place ≡ 2 → ⊥) → ns ≡ bumped ns c
+  unfolding isReadyFor isReady
+  not-ready h = bump-none (λ o l. rw (ne-eqb _ _ h))
+
+  pub no-such-output : mostPorts ≤ c .output .0 → ns ≡ bumped ns c
+  unfolding isReadyFor sameOutput
+  no-such-output h = bump-none (λ o l. to-no (λ x. omega (arith, eqb-true (c .output .0) o (both (isReady c) _ x .1))))
+
+  -- a ready cell is one more for its output
+  pub bump-one : c .place ≡ 2 → set ns (c .output .0) (getD ns (c .output .0) 0 + 1) ≡ bumped ns c
+  unfolding bumped isReadyFor isReady sameOutput
+  bump-one r = rw e at (set-tabulate 0 ns (c .output .0) (getD ns (c .output .0) 0 + 1)) ∙ tabulate-same 0 _ _ mostPorts (λ o l. rw (eq-eqb _ _ r) (go o (eqb o (c .output .0)) refl))
+    where
+      go : (o : ℕ) (b : Bool) → eqb o (c .output .0) ≡ b → cond b (getD ns (c .output .0) 0 + 1) (getD ns o 0) ≡ bit (eqb (c .output .0) o) + getD ns o 0
+      go o true q = let h : o ≡ c .output .0 = eqb-true _ _ q in rw (eq-eqb (c .output .0) o (sym h)) (omega (arith, ap (λ (x : ℕ). getD ns x 0) h))
+      go o false q = rw (ne-eqb (c .output .0) o (λ h. eqb-false _ _ q (sym h))) (omega arith)
+
+-- the ready cells of output o below record k, and all outputs' counts of them
+abbrev readyBelow : List Cell → ℕ → ℕ → ℕ
+readyBelow cs k o = count (λ j. isReadyFor (outputOf o) (nth cs j)) k
+
+unfoldable pub readingsBelow : List Cell → ℕ → List ℕ
+readingsBelow cs k = tabulate mostPorts (readyBelow cs k)
+
+module _ (cs : List Cell) where
+  at-output : (k o : ℕ) → o < mostPorts → getD (readingsBelow cs k) o 0 ≡ readyBelow cs k o
+  unfolding readingsBelow
+  at-output k o l = getD-tabulate (readyBelow cs k) mostPorts 0 o l
+
+  pub readings-none : replicate mostPorts 0 ≡ readingsBelow cs 0
+  unfolding readingsBelow
+  readings-none =
+      ext-getD 0 (replicate mostPorts 0) (readingsBelow cs 0) (sym (length-tabulate (readyBelow cs 0) mostPorts))
+      (λ o l. getD-replicate mostPorts o 0 0 l ∙ sym (at-output 0 o l ∙ count-zero _))
+
+  pub readings-more : (k : ℕ) → bumped (readingsBelow cs k) (nth cs k) ≡ readingsBelow cs (k + 1)
+  unfolding bumped readingsBelow
+  readings-more k = tabulate-same 0 _ (readyBelow cs (k + 1)) mostPorts (λ o l. rw (at-output k o l, add-one k) (sym (count-suc _ k)))
+
+  pub readings-all : readingsBelow cs (length cs) ≡ readings cs
+  unfolding readingsBelow readings readyCount
+  readings-all = refl
+
+  -- no count exceeds the records passed
+  pub readings-le : (k o : ℕ) → getD (readingsBelow cs k) o 0 ≤ k
+  unfolding readingsBelow
+  readings-le k o =
+      ⊎-elim
+      (λ l. rw (at-output k o (ltb-true o mostPorts l)) (count-le _ k))
+      (λ l. rw (List·getD-eq-default (readingsBelow cs k) 0 {n = o} (rw (length-tabulate (readyBelow cs k) mostPorts) (ltb-false o mostPorts l))) (omega arith))
+      (passes (ltb o mostPorts))

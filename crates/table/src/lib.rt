@@ -1,0 +1,360 @@
+// The cell table as it is lent: flat words, five a record. What stands in a record, how it is changed, and what the scans find.
+// Only `record_count`, `is_whole`, `clear`, `cell_at`, `put_cell` and `set_place` know of words; the scans go by records.
+use laws::Found;
+use rules::Cell;
+use rules::Input;
+use rules::Output;
+use rules::Slot;
+ghost use mathlib.Core.Path.{_≡_};
+ghost use Prim.Native.Nat.{_+_, _<_, _≤_};
+ghost use lib.ListN.{length, getD, replicate};
+ghost use Rattle.laws.specs.Least.{Below, sooner};
+ghost use Rattle.rules.specs.Cells.{free, placed, nth, records, isWhole, cellsOf, isReadyFor, isBlank, isSound, sameEntry, isAlone, fit, older, readingFor};
+ghost use Rattle.rules.specs.Answers.{live};
+ghost use Rattle.rules.specs.Phases.{lowestFree, readings, oldestReady};
+ghost use Rattle.table.specs.Table.{Stored, NoneBelow};
+ghost use Rattle.table.specs.Reading.{bumped};
+ghost use Rattle.table.specs.Marks.{Seen, Marked};
+
+pub fn record_count(table: &[u32]) -> usize
+    ensures { λ r. ⌜ r ≡ records (now (table .entry)) ⌝ }
+{
+    table.len() / 5
+}
+
+// Whether the words are whole records.
+pub fn is_whole(table: &[u32]) -> bool
+    ensures { λ r. ⌜ r ≡ isWhole (now (table .entry)) ⌝ }
+{
+    table.len() % 5 == 0
+}
+
+// Every word becomes 0.
+pub fn clear(words: &mut [u32])
+    ensures { λ _. ⌜ now (words .exit) ≡ replicate (length (now (words .entry))) 0 ⌝ }
+{
+    let mut i = 0;
+    while i < words.len() {
+        words[i] = 0;
+        i += 1;
+    }
+}
+
+// Record k.
+pub fn cell_at(table: &[u32], k: usize) -> Cell
+    requires { ⌜ k < records (now table) ⌝ }
+    ensures { λ r. ⌜ r ≡ nth (cellsOf (now (table .entry))) k ⌝ }
+{
+    let at = k * 5;
+    Cell {
+        place: table[at],
+        input: Input(table[at + 1]),
+        output: Output(table[at + 2]),
+        entered: Slot(table[at + 3]),
+        tag: table[at + 4],
+    }
+}
+
+// Record k becomes the cell c.
+pub fn put_cell(table: &mut [u32], k: usize, c: Cell)
+    requires { ⌜ k < records (now table) ⌝ }
+    ensures { λ _. ⌜ Stored (now (table .entry)) k c (now (table .exit)) ⌝ }
+{
+    let at = k * 5;
+    table[at] = c.place;
+    table[at + 1] = c.input.0;
+    table[at + 2] = c.output.0;
+    table[at + 3] = c.entered.0;
+    table[at + 4] = c.tag;
+}
+
+// Record k gets another place; its other four fields stay.
+pub fn set_place(table: &mut [u32], k: usize, place: u32)
+    requires { ⌜ k < records (now table) ⌝ }
+    ensures { λ _. ⌜ Stored (now (table .entry)) k (placed place (nth (cellsOf (now (table .entry))) k)) (now (table .exit)) ⌝ }
+{
+    table[k * 5] = place;
+}
+
+// Record k becomes free, all zeros.
+pub fn free_record(table: &mut [u32], k: usize)
+    requires { ⌜ k < records (now table) ⌝ }
+    ensures { λ _. ⌜ Stored (now (table .entry)) k free (now (table .exit)) ⌝ }
+{
+    put_cell(
+        table,
+        k,
+        Cell {
+            place: 0,
+            input: Input(0),
+            output: Output(0),
+            entered: Slot(0),
+            tag: 0,
+        },
+    );
+}
+
+// Whether a stands before b by slot and then input.
+pub fn is_older(a: Cell, b: Cell) -> bool
+    ensures { λ r. ⌜ r ≡ older a b ⌝ }
+{
+    if a.entered.0 < b.entered.0 {
+        return true;
+    }
+    if b.entered.0 < a.entered.0 {
+        return false;
+    }
+    a.input.0 < b.input.0
+}
+
+pub fn is_ready_for(c: Cell, o: Output) -> bool
+    ensures { λ r. ⌜ r ≡ isReadyFor o c ⌝ }
+{
+    if c.place == 2 {
+        c.output.0 == o.0
+    } else {
+        false
+    }
+}
+
+// The lowest-numbered free record, looked for from a record on below which none is free.
+pub fn next_free(table: &[u32], from: usize) -> Found
+    requires { ⌜ NoneBelow (now table) from ⌝ }
+    ensures { λ r. ⌜ r ≡ lowestFree (cellsOf (now (table .entry))) ⌝ }
+{
+    let n = record_count(table);
+    let mut k = from;
+    while k < n {
+        let c = cell_at(table, k);
+        if c.place == 0 {
+            return Found::At(k);
+        }
+        k += 1;
+    }
+    Found::Nothing
+}
+
+pub fn lowest_free(table: &[u32]) -> Found
+    ensures { λ r. ⌜ r ≡ lowestFree (cellsOf (now (table .entry))) ⌝ }
+{
+    next_free(table, 0)
+}
+
+// One turn of `oldest_ready`: what was found below record k, or record k.
+fn older_of(table: &[u32], o: Output, found: Found, k: usize) -> Found
+    requires { ⌜ k < records (now table) ⌝ }
+    requires { ⌜ Below k found ⌝ }
+    ensures { λ r. ⌜ r ≡ sooner (λ i j. older (nth (cellsOf (now (table .entry))) i) (nth (cellsOf (now (table .entry))) j)) found (isReadyFor o (nth (cellsOf (now (table .entry))) k)) k ⌝ }
+{
+    let c = cell_at(table, k);
+    if !is_ready_for(c, o) {
+        return found;
+    }
+    let Found::At(j) = found else {
+        return Found::At(k);
+    };
+    let d = cell_at(table, j);
+    if is_older(c, d) {
+        Found::At(k)
+    } else {
+        Found::At(j)
+    }
+}
+
+// Of the ready cells of an output, the first by slot and then input.
+pub fn oldest_ready(table: &[u32], o: Output) -> Found
+    ensures { λ r. ⌜ r ≡ oldestReady (cellsOf (now (table .entry))) o ⌝ }
+{
+    let n = record_count(table);
+    let mut found = Found::Nothing;
+    let mut k = 0;
+    while k < n {
+        found = older_of(table, o, found, k);
+        k += 1;
+    }
+    found
+}
+
+// How many records are live.
+pub fn live(table: &[u32]) -> usize
+    ensures { λ r. ⌜ r ≡ live (cellsOf (now (table .entry))) ⌝ }
+{
+    let n = record_count(table);
+    let mut cells = 0;
+    let mut k = 0;
+    while k < n {
+        let c = cell_at(table, k);
+        if c.place != 0 {
+            cells += 1;
+        }
+        k += 1;
+    }
+    cells
+}
+
+// "The counts are read once, kept together for the slot": how many ready cells each output has.
+pub struct Reading {
+    pub counts: [u32; 16],
+}
+
+// One more for the cell's output, where the cell is ready.
+fn bump(r: Reading, c: Cell) -> Reading
+    requires { ⌜ getD (r .counts) (c .output .0) 0 < 1024 ⌝ }
+    ensures { λ q. ⌜ q .counts ≡ bumped (r .counts) c ⌝ }
+{
+    if c.place != 2 {
+        return r;
+    }
+    let o = c.output.0;
+    if 16 <= o {
+        return r;
+    }
+    let at = o as usize;
+    let mut next = r;
+    let v = next.counts[at];
+    next.counts[at] = v + 1;
+    next
+}
+
+pub fn read(table: &[u32]) -> Reading
+    requires { ⌜ records (now table) ≤ 1024 ⌝ }
+    ensures { λ r. ⌜ r .counts ≡ readings (cellsOf (now (table .entry))) ⌝ }
+{
+    let n = record_count(table);
+    let mut r = Reading { counts: [0; 16] };
+    let mut k = 0;
+    while k < n {
+        let c = cell_at(table, k);
+        r = bump(r, c);
+        k += 1;
+    }
+    r
+}
+
+// The reading of one output; 0 for a number that no output has.
+pub fn reading_for(r: Reading, o: Output) -> u32
+    ensures { λ v. ⌜ v ≡ readingFor (r .counts) o ⌝ }
+{
+    let at = o.0 as usize;
+    if 16 <= at {
+        return 0;
+    }
+    r.counts[at]
+}
+
+// The four fields after the place are zero.
+fn is_blank(c: Cell) -> bool
+    ensures { λ r. ⌜ r ≡ isBlank c ⌝ }
+{
+    if c.input.0 != 0 {
+        return false;
+    }
+    if c.output.0 != 0 {
+        return false;
+    }
+    if c.entered.0 != 0 {
+        return false;
+    }
+    c.tag == 0
+}
+
+// What a record must meet by itself.
+fn is_sound(c: Cell, ports: u32, t: Slot) -> bool
+    ensures { λ r. ⌜ r ≡ isSound ports t c ⌝ }
+{
+    if c.place == 0 {
+        return is_blank(c);
+    }
+    if 2 < c.place {
+        return false;
+    }
+    if ports <= c.input.0 {
+        return false;
+    }
+    if ports <= c.output.0 {
+        return false;
+    }
+    c.entered.0 < t.0
+}
+
+// Both live, with the same slot and the same input.
+fn is_same_entry(a: Cell, b: Cell) -> bool
+    ensures { λ r. ⌜ r ≡ sameEntry a b ⌝ }
+{
+    if a.place == 0 {
+        return false;
+    }
+    if b.place == 0 {
+        return false;
+    }
+    if a.entered.0 != b.entered.0 {
+        return false;
+    }
+    a.input.0 == b.input.0
+}
+
+// Record k has the same slot and input as no record below it, each looked at.
+fn is_alone(table: &[u32], k: usize) -> bool
+    requires { ⌜ k < records (now table) ⌝ }
+    ensures { λ r. ⌜ r ≡ isAlone (cellsOf (now (table .entry))) k ⌝ }
+{
+    let c = cell_at(table, k);
+    let mut j = 0;
+    while j < k {
+        let d = cell_at(table, j);
+        if is_same_entry(c, d) {
+            return false;
+        }
+        j += 1;
+    }
+    true
+}
+
+// Marks a live cell by the low digits of its slot and its input; whether no cell was so marked before.
+fn is_new(marks: &mut [u16; 1024], c: Cell) -> bool
+    requires { ⌜ length (now marks) ≡ 1024 ⌝ }
+    ensures { λ r. ⌜ Marked (now (marks .entry)) c r (now (marks .exit)) ⌝ }
+{
+    if c.place == 0 {
+        return true;
+    }
+    let at = (c.entered.0 % 1024) as usize;
+    let port = c.input.0 % 16;
+    let mask = marks[at];
+    marks[at] = ports::with(mask, port);
+    !ports::holds(mask, port)
+}
+
+// The same, by the marks of the cells below it; the records are looked at only where its mark is not new. Record k is marked too.
+fn is_alone_by(table: &[u32], k: usize, marks: &mut [u16; 1024]) -> bool
+    requires { ⌜ k < records (now table) ⌝ }
+    requires { ⌜ Seen (now marks) (cellsOf (now table)) k ⌝ }
+    ensures { λ r. ⌜ r ≡ isAlone (cellsOf (now (table .entry))) k ⌝ }
+    ensures { λ _. ⌜ Seen (now (marks .exit)) (cellsOf (now (table .entry))) (k + 1) ⌝ }
+{
+    let c = cell_at(table, k);
+    if is_new(marks, c) {
+        return true;
+    }
+    is_alone(table, k)
+}
+
+// Whether the table is fit for slot t, in one pass.
+pub fn fit(table: &[u32], ports: u32, t: Slot) -> bool
+    ensures { λ r. ⌜ r ≡ fit ports t (cellsOf (now (table .entry))) ⌝ }
+{
+    let n = record_count(table);
+    let mut marks = [0u16; 1024];
+    let mut k = 0;
+    while k < n {
+        let c = cell_at(table, k);
+        if !is_sound(c, ports, t) {
+            return false;
+        }
+        if !is_alone_by(table, k, &mut marks) {
+            return false;
+        }
+        k += 1;
+    }
+    true
+}
