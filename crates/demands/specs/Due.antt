@@ -1,0 +1,131 @@
+-- When a cell leaves. A cell is due in slot s while, before slot t, it is held with s - t others before it; after slot s it is gone. An inhale
+-- and a phase keep that, and an exhale shows the cell exactly when it is due.
+-- Assumes nothing.
+use mathlib.Core.Path.{_≡_, refl, sym, subst, ap, _∙_}
+use mathlib.Core.Logic.{_⊎_, inl, inr, ⊎-elim}
+use mathlib.Core.Bool.{Bool, So}
+use mathlib.Core.List.{List}
+use Prim.Native.Nat.{ℕ, zero, suc, _+_, _≤_, _<_}
+use native.Mathlib.Omega.{arith}
+use native.Mathlib.Nat.{eq-zero-or-pos}
+use lib.ListN.{length}
+use borrow.Author.Tests.{eqb-true}
+use Rattle.laws.specs.Tests.{No, refuted}
+use Rattle.rules.specs.declared.Switch.{Switch}
+use Rattle.rules.specs.declared.Slot.{Slot}
+use Rattle.rules.specs.declared.Cell.{Cell}
+use Rattle.rules.specs.Cells.{mostPorts, nth, sameInput, sameSlot}
+use Rattle.rules.specs.Phases.{isEmitted, moved, phases, exhale, exhaled}
+use Rattle.rules.specs.Model.{Match, same}
+use Rattle.rules.specs.Demands.{elders, emits, emitted, Leaves}
+use Rattle.ideal.specs.Cells.{→same}
+use Rattle.ideal.specs.Fit.{Fit, Stays, stays-refl}
+use Rattle.ideal.specs.Match.{match-is}
+use Rattle.ideal.specs.Phases.{length-moved, moved-stays, moved-free, phases-zero, phases-suc, phases-fit}
+use Rattle.ideal.specs.Inhale.{Inhaled, inhaled-was}
+use Rattle.ideal.specs.Exhale.{emitted→, length-exhale, exhale-kept}
+use Rattle.ideal.specs.Exhaled.{shown, shown→}
+use Rattle.demands.specs.Ages.{age}
+use Rattle.demands.specs.Led.{Led}
+use Rattle.demands.specs.Steps.{still}
+use Rattle.demands.specs.Elders.{Holds, elders-hold, stays-same, stays-on, leaves-now, stays-behind, one-fewer}
+
+-- no live record has c's slot and input
+abbrev pub Gone : Cell → List Cell → Type 0
+Gone c cs = (q : ℕ) → q < length cs → 1 ≤ nth cs q .place → nth cs q .entered .0 ≡ c .entered .0 → nth cs q .input .0 ≡ c .input .0 → ⊥
+
+abbrev pub Due : Cell → ℕ → ℕ → List Cell → Type 0
+Due c s t cs = ((q : ℕ) × (q < length cs) × Stays c (nth cs q) × (elders cs c + t ≡ s)) ⊎ ((s < t) × Gone c cs)
+
+-- Between exhales --------------------------------------------------------------------------------
+
+pub due-hold : {c : Cell} {s t b : ℕ} {cs us : List Cell} → Holds b cs us → c .entered .0 < b → Due c s t cs → Due c s t us
+due-hold {c} {s} {t} {b} {cs} {us} h early (inl q) =
+    inl (q .0, omega (arith, h .long, q .1), stays-on (q .2) (h .stays (q .0) (q .1) (q .2 .lives)), omega (arith, elders-hold h c early, q .3))
+due-hold {c} {s} {t} {b} {cs} {us} h early (inr g) = inr (g .0, gone)
+  where
+    gone : Gone c us
+    gone q l w e i =
+        let m : q < length cs = omega (arith, h .long) in
+        ⊎-elim (λ z. omega (arith, h .new q m z w)) (λ z. let x = h .stays q m z in g .1 q m z (sym (x .entered) ∙ e) (sym (x .input) ∙ i)) (eq-zero-or-pos (nth cs q .place))
+
+pub inhale-holds : {n i : ℕ} {t : Slot} {arrivals : List ℕ} {cs us : List Cell} → Inhaled t arrivals i cs us → Fit n t cs → Holds (t .0) cs us
+inhale-holds {cs = cs} h f =
+    record {
+      long = h .long;
+      stays = λ k l w. rw (h .old k l w) (stays-refl (nth cs k) (f .each k l) w);
+      new = λ k l z w. ⊎-elim (λ y. absurd (omega (arith, y .0))) (λ y. omega (arith, y .1)) (inhaled-was h k l w);
+    }
+
+moved-holds : {n : ℕ} {t : Slot} {cs : List Cell} {r : List ℕ} {m : ℕ → Bool} (b : ℕ) → Fit n t cs → Match r cs m → Holds b cs (moved m cs)
+moved-holds {cs = cs} {m = m} b f a =
+    record {
+      long = length-moved m cs;
+      stays = moved-stays f a;
+      new = λ k l z w. absurd (omega (arith, ap (λ (c : Cell). c .place) (moved-free f a k l z)));
+    }
+
+pub due-phases : {n : ℕ} {τ : Slot} {c : Cell} {s t : ℕ} {cs : List Cell} → Fit n τ cs → (r : List ℕ) → Due c s t cs → (j : ℕ) → Due c s t (phases n r cs j)
+due-phases {n} {cs = cs} f r d zero = rw (phases-zero n r cs) d
+due-phases {n} {c = c} {cs = cs} f r d (suc j) =
+    let g = phases-fit f r j in
+    rw (phases-suc n r cs j) (due-hold (moved-holds (suc (c .entered .0)) g (match-is g r)) (omega arith) (due-phases f r d j))
+
+-- At an exhale -----------------------------------------------------------------------------------
+
+module _ (w : Switch) {t : Slot} {cs : List Cell} (f : Fit (w .ports) t cs) (c : Cell) where
+  -- a shown cell is an emitted record
+  shows : (o : ℕ) → o < w .ports → So (emits (exhaled (w .ports) cs) o) → So (sameInput (emitted (exhaled (w .ports) cs) o .input) (c .input)) → So (sameSlot (emitted (exhaled (w .ports) cs) o .entered) (c .entered))
+      → (k : ℕ) × (k < length cs) × So (isEmitted (w .ports) cs k) × (nth cs k .output .0 ≡ o) × (nth cs k .entered .0 ≡ c .entered .0) × (nth cs k .input .0 ≡ c .input .0) × (1 ≤ nth cs k .place)
+  unfolding sameInput sameSlot
+  shows o l x i e =
+      let k = shown→ (w .ports) cs o l x in
+      (k .0, k .1, k .2, k .3, ap (λ (d : Cell). d .entered .0) (sym (k .4)) ∙ eqb-true _ _ e, ap (λ (d : Cell). d .input .0) (sym (k .4)) ∙ eqb-true _ _ i, omega (arith, emitted→ (w .ports) cs (k .0) (k .2) .1))
+
+  -- what is gone stays gone, and is not shown
+  gone-exhale : (s : ℕ) → s < w .next .0 → Gone c cs → Leaves c s w (exhaled (w .ports) cs) × Due c s (suc (w .next .0)) (exhale (w .ports) cs)
+  gone-exhale s late g = (
+    record { then = λ e. absurd (omega arith); once = λ o l x i e. let k = shows o l x i e in absurd (g (k .0) (k .1) (k .6) (k .4) (k .5)) },
+    inr (omega arith, λ q l v e i. let m : q < length cs = omega (arith, length-exhale (w .ports) cs) in let k = still f q m v in g q m (rw (k .1) at v) (rw (k .1) at e) (rw (k .1) at i)),
+  )
+
+  module _ {q : ℕ} (l : q < length cs) (y : Stays c (nth cs q)) where
+    -- a record with c's slot and input is q
+    mine : (k : ℕ) → k < length cs → 1 ≤ nth cs k .place → nth cs k .entered .0 ≡ c .entered .0 → nth cs k .input .0 ≡ c .input .0 → k ≡ q
+    mine k m v e i = f .apart k q m l v (y .lives) (e ∙ sym (y .entered)) (i ∙ sym (y .input))
+
+    -- with none before it
+    first-exhale : (s : ℕ) → w .next .0 ≡ s → So (isEmitted (w .ports) cs q) → Leaves c s w (exhaled (w .ports) cs) × Due c s (suc (w .next .0)) (exhale (w .ports) cs)
+    first-exhale s now x = (
+      record {
+        then = λ e. let a = shown (w .ports) cs q x in subst (λ (o : ℕ). So (emits (exhaled (w .ports) cs) o) × So (same (emitted (exhaled (w .ports) cs) o) c)) (y .output) (a .0, rw (a .1) (→same (nth cs q) c (stays-same y)));
+        once = λ o m z i e. let k = shows o m z i e in (now, sym (k .3) ∙ ap (λ (j : ℕ). nth cs j .output .0) (mine (k .0) (k .1) (k .6) (k .4) (k .5)) ∙ y .output);
+      },
+      inr (omega (arith, now), gone),
+    )
+      where
+        gone : Gone c (exhale (w .ports) cs)
+        gone k m v e i =
+            let m′ : k < length cs = omega (arith, length-exhale (w .ports) cs) in
+            let b = still f k m′ v in
+            refuted x (subst (λ j. No (isEmitted (w .ports) cs j)) (mine k m′ (rw (b .1) at v) (rw (b .1) at e) (rw (b .1) at i)) (b .0))
+
+    -- with some before it
+    later-exhale : (s e : ℕ) → suc e + w .next .0 ≡ s → No (isEmitted (w .ports) cs q) → elders (exhale (w .ports) cs) c ≡ e
+        → Leaves c s w (exhaled (w .ports) cs) × Due c s (suc (w .next .0)) (exhale (w .ports) cs)
+    later-exhale s e z x b = (
+      record {
+        then = λ n. absurd (omega arith);
+        once = λ o m v i g. let k = shows o m v i g in absurd (refuted (subst (λ j. So (isEmitted (w .ports) cs j)) (mine (k .0) (k .1) (k .6) (k .4) (k .5)) (k .2)) x);
+      },
+      inl (q, omega (arith, length-exhale (w .ports) cs), rw (exhale-kept (w .ports) cs q l x) y, omega (arith, b)),
+    )
+
+pub due-exhale : (w : Switch) {t : Slot} {cs : List Cell} → w .ports ≤ mostPorts → Fit (w .ports) t cs → Led (length cs) age (nth cs) → {c : Cell} {s : ℕ} → Due c s (w .next .0) cs
+    → Leaves c s w (exhaled (w .ports) cs) × Due c s (suc (w .next .0)) (exhale (w .ports) cs)
+due-exhale w {t} {cs} ports f led {c} {s} (inr g) = gone-exhale w f c s (g .0) (g .1)
+due-exhale w {t} {cs} ports f led {c} {s} (inl q) = go (elders cs c) refl
+  where
+    go : (e : ℕ) → elders cs c ≡ e → Leaves c s w (exhaled (w .ports) cs) × Due c s (suc (w .next .0)) (exhale (w .ports) cs)
+    go zero z = first-exhale w f c (q .1) (q .2) s (omega (arith, z, q .3)) (leaves-now ports f led (q .1) (q .2) z)
+    go (suc e) z = later-exhale w f c (q .1) (q .2) s e (omega (arith, z, q .3)) (stays-behind ports f led (q .1) (q .2) e z) (one-fewer ports f led (q .1) (q .2) e z)

@@ -1,0 +1,13 @@
+pub mod Ages
+pub mod Ahead
+pub mod Turn
+pub mod Phase
+pub mod Led
+pub mod Steps
+pub mod States
+pub mod Conserves
+pub mod Elders
+pub mod Due
+pub mod Departs
+pub mod Needs
+pub mod Demands
