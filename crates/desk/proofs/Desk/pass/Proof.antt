@@ -1,0 +1,101 @@
+-- What was read so far was passed, and while nothing was, nothing is in the buffer.
+-- Assumes nothing.
+use borrow.Author.Tests.{leb-true, leb-false}
+use mathlib.Core.Logic.{⊎-elim}
+use native.Mathlib.Nat.{eq-or-lt-of-le}
+use Prim.Native.Nat.{_+_, _≤_, _-_}
+use mathlib.Core.Path.{_≡_, refl, sym}
+use native.Mathlib.Omega.{arith}
+use native.Mathlib.Numerals.{add-one}
+use lib.ListN.{length, getD, drop}
+use lib.Seq.{drop-cons}
+use denote.Ref.{now}
+use Rattle.desk.specs.Coming.{stand, Goes}
+use Rattle.desk.specs.Turns.{goes-none, goes-byte}
+use Rattle.desk.proofs.Desk.pass.Statement.{statement}
+use Rattle.desk.proofs.Desk.pass.Tie as tie
+
+abbrev Inv-loop : tie.InvT-loop
+Inv-loop piece from table₀ arrivals₀ out₀ most desk₀ at₀ next₀ table arrivals out desk at next = (from ≤ next) × (next ≤ length piece) × (length table ≡ 5125) × (length arrivals ≡ 32) × (length out ≡ length out₀) × (at ≤ length out) × (next ≡ from → at ≡ 0) × Goes (stand desk₀ table₀ arrivals₀) (drop from piece) out₀ 0 (stand desk table arrivals) (drop next piece) out at
+
+abbrev μ-loop : tie.MeasureT-loop
+μ-loop piece from table₀ arrivals₀ out₀ most desk₀ at₀ next₀ table arrivals out desk at next = length piece - next
+
+sub-most : tie.Need-sub-most Inv-loop μ-loop
+sub-most c = omega arith
+
+loop-holds : tie.Need-loop-holds Inv-loop μ-loop
+loop-holds c = (omega arith, c .before .before .before .before .pre .1 .0, c .before .before .before .before .pre .1 .1 .0 .0, c .before .before .before .before .pre .1 .1 .0 .1, refl, omega arith, λ e. refl, goes-none _ _ _ _ (c .before .before .before .before .pre .0))
+
+shared-slice-read-step : tie.Need-shared-slice-read-step Inv-loop μ-loop
+shared-slice-read-step c = omega arith
+
+step-requires : tie.Need-step-requires Inv-loop μ-loop
+step-requires c κs = (c .before .before .before .before .before .before .loop .inv .7 .inside, ((c .before .before .before .before .before .before .loop .inv .2, c .before .before .before .before .before .before .loop .inv .3), omega (arith, c .before .before .before .before .before .before .before .before .before .before .before .pre .1 .1 .1, leb-true (c .before .before .before .before .before .before .loop .at) (length (now (c .before .before .before .before .before .before .before .before .before .before .before .args .out)) - 1024) (c .before .before .before .before .if1 .taken), c .before .before .before .before .before .before .loop .inv .4)))
+
+add-next : tie.Need-add-next Inv-loop μ-loop
+add-next c = omega arith
+
+loop-less : tie.Need-loop-less Inv-loop μ-loop
+loop-less c = omega arith
+
+loop-again : tie.Need-loop-again Inv-loop μ-loop
+loop-again c = let i = c .before .before .before .before .before .before .before .before .before .before .before .before .before .loop .inv in
+    let a = c .before .before .before .before .before .before .before .before .before .before .before .before .before .before .before .before .before .before .args in
+    let n = c .before .before .before .before .before .before .before .before .before .before .before .before .before .loop .next in
+    let s = c .before .before .before .before .before .before .step .ensures in (
+      omega (arith, i .0),
+      omega arith,
+      omega (arith, c .before .before .before .before .before .before .step .kept .1 .1 .0, i .2),
+      omega (arith, c .before .before .before .before .before .before .step .kept .1 .1 .1 .0, i .3),
+      omega (arith, c .before .before .before .before .before .before .step .kept .1 .1 .1 .1 .0, i .4),
+      omega (arith, s .within, i .4, leb-true (c .before .before .before .before .before .before .before .before .before .before .before .before .before .loop .at) (length (now (a .out)) - 1024) (c .before .before .before .before .before .before .before .before .before .before .before .if1 .taken), c .before .before .before .before .before .before .step .kept .1 .1 .1 .1 .0, c .before .before .before .before .before .before .before .before .before .before .before .before .before .before .before .before .before .before .pre .1 .1 .1),
+      λ e. absurd (omega (arith, i .0)),
+      goes-byte (getD (now (a .piece)) n 0) (drop (n + 1) (now (a .piece))) (rw (drop-cons (now (a .piece)) n 0 (omega arith), ← add-one n) at (i .7)) s,
+    )
+
+same-length : tie.Need-same-length Inv-loop μ-loop
+same-length c = omega (arith, c .before .before .loop .inv .2, c .before .before .before .before .before .before .before .pre .1 .1 .0 .0)
+
+same-length-2 : tie.Need-same-length-2 Inv-loop μ-loop
+same-length-2 c = omega (arith, c .before .before .loop .inv .3, c .before .before .before .before .before .before .before .pre .1 .1 .0 .1)
+
+same-length-3 : tie.Need-same-length-3 Inv-loop μ-loop
+same-length-3 c = c .before .before .loop .inv .4
+
+returns : tie.Need-returns Inv-loop μ-loop
+returns c = (c .before .before .loop .inv .7, ((omega arith, omega (arith, c .before .before .loop .inv .4, c .before .before .loop .inv .5)), λ h. ⊎-elim (λ e. absurd (omega (arith, c .before .before .loop .inv .6 (sym e), leb-false (c .before .before .loop .at) (length (now (c .before .before .before .before .before .before .before .args .out)) - 1024) (c .if1 .left)))) (λ l. l) (eq-or-lt-of-le {n = c .before .before .before .before .before .before .before .args .from} {m = c .before .before .loop .next} (c .before .before .loop .inv .0))))
+
+same-length-4 : tie.Need-same-length-4 Inv-loop μ-loop
+same-length-4 c = omega (arith, c .before .loop .inv .2, c .before .before .before .before .before .before .pre .1 .1 .0 .0)
+
+same-length-5 : tie.Need-same-length-5 Inv-loop μ-loop
+same-length-5 c = omega (arith, c .before .loop .inv .3, c .before .before .before .before .before .before .pre .1 .1 .0 .1)
+
+same-length-6 : tie.Need-same-length-6 Inv-loop μ-loop
+same-length-6 c = c .before .loop .inv .4
+
+returns-2 : tie.Need-returns-2 Inv-loop μ-loop
+returns-2 c = (c .before .loop .inv .7, ((omega arith, omega (arith, c .before .loop .inv .4, c .before .loop .inv .5)), λ h. omega arith))
+
+pub pass-spec : {M : Type 1} → statement M
+pass-spec =
+    tie.close
+    (tie.spec
+    Inv-loop
+    μ-loop
+    sub-most
+    loop-holds
+    shared-slice-read-step
+    step-requires
+    add-next
+    loop-less
+    loop-again
+    same-length
+    same-length-2
+    same-length-3
+    returns
+    same-length-4
+    same-length-5
+    same-length-6
+    returns-2)

@@ -1,0 +1,7 @@
+pub mod Program
+pub mod Coming
+pub mod Bytes
+pub mod Start
+pub mod Turns
+pub mod Run
+pub mod Examples

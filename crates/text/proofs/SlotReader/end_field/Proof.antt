@@ -1,0 +1,76 @@
+-- What the field says is what its end answers; the tests are those of `written`.
+-- Assumes nothing.
+use mathlib.Core.Path.{sym, _∙_}
+use native.Mathlib.Omega.{arith}
+use Prim.Native.Nat.{_+_}
+use lib.ListN.{length, length-set}
+use borrow.Author.Tests.{le-leb, lt-leb}
+use Rattle.text.specs.Steps.{written, endField}
+use borrow.Author.Needs.{needs}
+use Rattle.text.proofs.SlotReader.end_field.Statement.{statement}
+use Rattle.text.proofs.SlotReader.end_field.Tie as tie
+
+end-requires : tie.Need-end-requires
+end-requires c κs = search needs
+
+enum-known-output : tie.Need-enum-known-output
+enum-known-output c = search needs
+
+enum-told : tie.Need-enum-told
+enum-told c = search needs
+
+returns : tie.Need-returns
+unfolding endField written
+returns c = simp (sym (c .before .before .end .ensures) ∙ c .enum-told .given .1)
+
+returns-2 : tie.Need-returns-2
+unfolding endField written
+returns-2 c = simp (sym (c .before .before .before .before .end .ensures) ∙ c .before .before .output .given .1, lt-leb (c .before .before .before .before .before .before .args .self .at + 2) (length (c .before .before .before .before .before .before .args .words .now)) (omega arith))
+
+returns-3 : tie.Need-returns-3
+unfolding endField written
+returns-3 c = simp (sym (c .before .before .before .before .before .end .ensures) ∙ c .before .before .before .output .given .1, lt-leb (c .before .before .before .before .before .before .before .args .self .at + 2) (length (c .before .before .before .before .before .before .before .args .words .now)) (omega arith))
+
+mul-words : tie.Need-mul-words
+mul-words c = search needs
+
+slice-write-words : tie.Need-slice-write-words
+slice-write-words c = search needs
+
+add-words : tie.Need-add-words
+add-words c = search needs
+
+mul-words-2 : tie.Need-mul-words-2
+mul-words-2 c = search needs
+
+slice-write-words-2 : tie.Need-slice-write-words-2
+slice-write-words-2 c = simp length-set (omega arith)
+
+add-t12 : tie.Need-add-t12
+add-t12 c = search needs
+
+same-length : tie.Need-same-length
+same-length c = search needs
+
+returns-4 : tie.Need-returns-4
+unfolding endField written
+returns-4 c = simp (sym (c .before .before .before .before .before .end .ensures) ∙ c .before .before .before .output .given .1, le-leb (c .before .before .before .before .before .before .before .args .self .at + 2) (length (c .before .before .before .before .before .before .before .args .words .now)) (omega arith))
+
+pub end-field-spec : {M : Type 1} → statement M
+end-field-spec =
+    tie.close
+    (tie.spec
+    end-requires
+    enum-known-output
+    enum-told
+    returns
+    returns-2
+    returns-3
+    mul-words
+    slice-write-words
+    add-words
+    mul-words-2
+    slice-write-words-2
+    add-t12
+    same-length
+    returns-4)

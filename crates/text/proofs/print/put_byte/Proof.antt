@@ -1,0 +1,21 @@
+-- One store, and the place behind it.
+-- Assumes nothing.
+use Rattle.text.specs.Prints.{put-byte}
+use borrow.Author.Needs.{needs}
+use Rattle.text.proofs.print.put_byte.Statement.{statement}
+use Rattle.text.proofs.print.put_byte.Tie as tie
+
+slice-write-buf : tie.Need-slice-write-buf
+slice-write-buf c = search needs
+
+add-result : tie.Need-add-result
+add-result c = search needs
+
+same-length : tie.Need-same-length
+same-length c = search needs
+
+returns : tie.Need-returns
+returns c = put-byte (c .args .buf .now) (c .args .at) (c .args .byte) (c .pre)
+
+pub put-byte-spec : {M : Type 1} → statement M
+put-byte-spec = tie.close (tie.spec slice-write-buf add-result same-length returns)

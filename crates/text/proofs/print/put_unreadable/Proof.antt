@@ -1,0 +1,25 @@
+-- The text that is put is the line.
+-- Assumes nothing.
+use native.Mathlib.Omega.{arith}
+use Rattle.laws.specs.Texts.{bytes}
+use Rattle.text.specs.Printed.{unreadableLine}
+use borrow.Author.Needs.{needs}
+use Rattle.text.proofs.print.put_unreadable.Statement.{statement}
+use Rattle.text.proofs.print.put_unreadable.Tie as tie
+
+slice-aggregate-put-text : tie.Need-slice-aggregate-put-text
+slice-aggregate-put-text c = search needs
+
+put-text-requires : tie.Need-put-text-requires
+put-text-requires c κs = search needs
+
+same-length : tie.Need-same-length
+same-length c = search needs
+
+returns : tie.Need-returns
+unfolding unreadableLine bytes
+returns c = (omega (arith, c .before .before .put-text .ensures .place), c .before .before .put-text .ensures)
+
+pub put-unreadable-spec : {M : Type 1} → statement M
+put-unreadable-spec =
+    tie.close (tie.spec slice-aggregate-put-text put-text-requires same-length returns)

@@ -1,0 +1,110 @@
+// Printed lines, put into a buffer that the caller lends, one behind the other. Each function returns where its text ends.
+use crate::NEWLINE;
+use crate::SPACE;
+ghost use Prim.Native.Nat.{_+_, _<_, _≤_};
+ghost use mathlib.Core.Path.{_≡_};
+ghost use mathlib.Core.List.{[], _∷_};
+ghost use lib.ListN.{length};
+ghost use Rattle.text.specs.Printed.{digit, decimal, field, headerLine, cellLine, refusedLine, unreadableLine, heldLine};
+ghost use Rattle.text.specs.Prints.{Put};
+
+pub fn put_header(buf: &mut [u8], at: usize) -> usize
+    requires { ⌜ at + 60 ≤ length (now buf) ⌝ }
+    ensures within { λ r. ⌜ r ≤ at + 60 ⌝ }
+    ensures put { λ r. ⌜ Put (now (buf .entry)) at headerLine (now (buf .exit)) r ⌝ }
+{
+    put_text(buf, at, b"slot output input entered tag\n")
+}
+
+pub fn put_unreadable(buf: &mut [u8], at: usize) -> usize
+    requires { ⌜ at + 60 ≤ length (now buf) ⌝ }
+    ensures within { λ r. ⌜ r ≤ at + 60 ⌝ }
+    ensures put { λ r. ⌜ Put (now (buf .entry)) at unreadableLine (now (buf .exit)) r ⌝ }
+{
+    put_text(buf, at, b"unreadable\n")
+}
+
+pub fn put_refused(buf: &mut [u8], at: usize, number: u32) -> usize
+    requires { ⌜ at + 60 ≤ length (now buf) ⌝ }
+    ensures within { λ r. ⌜ r ≤ at + 60 ⌝ }
+    ensures put { λ r. ⌜ Put (now (buf .entry)) at (refusedLine number) (now (buf .exit)) r ⌝ }
+{
+    let next = put_text(buf, at, b"refused ");
+    put_field(buf, next, number, NEWLINE)
+}
+
+pub fn put_held(buf: &mut [u8], at: usize, live: u32) -> usize
+    requires { ⌜ at + 60 ≤ length (now buf) ⌝ }
+    ensures within { λ r. ⌜ r ≤ at + 60 ⌝ }
+    ensures put { λ r. ⌜ Put (now (buf .entry)) at (heldLine live) (now (buf .exit)) r ⌝ }
+{
+    let next = put_text(buf, at, b"held ");
+    put_field(buf, next, live, NEWLINE)
+}
+
+pub fn put_cell(
+    buf: &mut [u8],
+    at: usize,
+    slot: u32,
+    output: u32,
+    input: u32,
+    entered: u32,
+    tag: u32,
+) -> usize
+    requires { ⌜ at + 60 ≤ length (now buf) ⌝ }
+    ensures within { λ r. ⌜ r ≤ at + 60 ⌝ }
+    ensures put { λ r. ⌜ Put (now (buf .entry)) at (cellLine slot output input entered tag) (now (buf .exit)) r ⌝ }
+{
+    let a = put_field(buf, at, slot, SPACE);
+    let b = put_field(buf, a, output, SPACE);
+    let c = put_field(buf, b, input, SPACE);
+    let d = put_field(buf, c, entered, SPACE);
+    put_field(buf, d, tag, NEWLINE)
+}
+
+fn put_text(buf: &mut [u8], at: usize, text: &[u8]) -> usize
+    requires { ⌜ at + length (now text) ≤ length (now buf) ⌝ }
+    ensures { λ r. ⌜ Put (now (buf .entry)) at (now (text .entry)) (now (buf .exit)) r ⌝ }
+{
+    let mut next = at;
+    for i in 0..text.len() {
+        next = put_byte(buf, next, text[i]);
+    }
+    next
+}
+
+fn put_field(buf: &mut [u8], at: usize, number: u32, after: u8) -> usize
+    requires { ⌜ at + 11 ≤ length (now buf) ⌝ }
+    ensures within { λ r. ⌜ r ≤ at + 11 ⌝ }
+    ensures put { λ r. ⌜ Put (now (buf .entry)) at (field number after) (now (buf .exit)) r ⌝ }
+{
+    let next = put_number(buf, at, number);
+    put_byte(buf, next, after)
+}
+
+// The digits before the last are those of a tenth of the number.
+pub fn put_number(buf: &mut [u8], at: usize, number: u32) -> usize
+    requires { ⌜ at + length (decimal number) ≤ length (now buf) ⌝ }
+    ensures { λ r. ⌜ Put (now (buf .entry)) at (decimal number) (now (buf .exit)) r ⌝ }
+{
+    if number < 10 {
+        return put_byte(buf, at, digit(number));
+    }
+    let next = put_number(buf, at, number / 10);
+    put_byte(buf, next, digit(number % 10))
+}
+
+fn digit(number: u32) -> u8
+    requires { ⌜ number < 10 ⌝ }
+    ensures { λ r. ⌜ r ≡ digit number ⌝ }
+{
+    b'0' + number as u8
+}
+
+fn put_byte(buf: &mut [u8], at: usize, byte: u8) -> usize
+    requires { ⌜ at < length (now buf) ⌝ }
+    ensures { λ r. ⌜ Put (now (buf .entry)) at (byte ∷ []) (now (buf .exit)) r ⌝ }
+{
+    buf[at] = byte;
+    at + 1
+}
