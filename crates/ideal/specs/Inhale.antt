@@ -4,17 +4,19 @@ use mathlib.Core.Path.{_≡_, refl, sym, ap, _∙_}
 use mathlib.Core.Logic.{_⊎_, inl, inr, ⊎-elim}
 use mathlib.Core.Bool.{So, true}
 use mathlib.Core.List.{List}
-use Prim.Native.Nat.{ℕ, zero, suc, pred, _+_, _≤_, _<_}
+use Prim.Native.Nat.{ℕ, suc, _+_, _≤_, _<_}
 use native.Mathlib.Omega.{arith}
 use native.Mathlib.Nat.{eq-zero-or-pos, eq-or-lt-of-le}
 use lib.Dec.{eqb, ltb}
 use lib.ListN.{length, set, length-set}
-use lib.Seq.{getD-set-same, getD-set-other}
-use borrow.Author.Tests.{eqb-true, eqb-false, eq-eqb}
+use lib.Seq.{getD-set-same}
+use borrow.Author.Tests.{eqb-true, eq-eqb}
 use Rattle.laws.specs.Tests.{No, passes, refuted, denied, cond-true, cond-false}
 use Rattle.laws.specs.Walk.{over-ind}
 use Rattle.laws.specs.Count.{bit, count, count-zero, count-suc, count-all, count-extra, count-more, count-either, count-one, count-prefix, count-le}
 use Rattle.laws.specs.Least.{Least, lowest-is}
+use Rattle.laws.specs.Lists.{stored}
+use Rattle.laws.specs.Order.{pred-below}
 use Rattle.laws.specs.declared.Found.{Found}
 use Rattle.laws.specs.declared.Found.the-variants.{At, Nothing}
 use Rattle.rules.specs.declared.Slot.{Slot}
@@ -35,14 +37,6 @@ pub record Inhaled (t : Slot) (arrivals : List ℕ) (i : ℕ) (cs us : List Cell
       → nth us j .input .0 ≡ nth us k .input .0 → j ≡ k
   pub total : live us ≡ live cs + count (arrives arrivals) i
 
--- a record of a table after a store: the stored one, or as it was
-stored : (us : List Cell) (k : ℕ) (c : Cell) → k < length us → (j : ℕ) → ((j ≡ k) × (nth (set us k c) j ≡ c)) ⊎ ((j ≡ k → ⊥) × (nth (set us k c) j ≡ nth us j))
-stored us k c l j =
-    ⊎-elim
-    (λ x. let e : j ≡ k = eqb-true j k x in inl (e, rw e (getD-set-same us k c free l)))
-    (λ x. inr (eqb-false j k x, getD-set-other us k j c free (eqb-false j k x)))
-    (passes (eqb j k))
-
 -- a live cell stored in a free record: one more is live
 pub live-store : (us : List Cell) (k : ℕ) (c : Cell) → k < length us → nth us k .place ≡ 0 → 1 ≤ c .place → live (set us k c) ≡ live us + 1
 unfolding live
@@ -59,10 +53,10 @@ live-store us k c l z w =
     here = rw (getD-set-same us k c free l) (→live c w)
 
     up : (j : ℕ) → j < length us → So (isLive (nth us j)) → So (isLive (nth (set us k c) j))
-    up j i x = ⊎-elim (λ s. rw (s .1) (→live c w)) (λ s. rw (s .1) x) (stored us k c l j)
+    up j i x = ⊎-elim (λ s. rw (s .1) (→live c w)) (λ s. rw (s .1) x) (stored free us k c l j)
 
     side : (j : ℕ) → j < length us → So (isLive (nth (set us k c) j)) → So (isLive (nth us j)) ⊎ So (eqb j k)
-    side j i x = ⊎-elim (λ s. inr (eq-eqb j k (s .0))) (λ s. inl (rw (s .1) at x)) (stored us k c l j)
+    side j i x = ⊎-elim (λ s. inr (eq-eqb j k (s .0))) (λ s. inl (rw (s .1) at x)) (stored free us k c l j)
 
 pub live-le : (us : List Cell) → live us ≤ length us
 unfolding live
@@ -82,10 +76,6 @@ some-free us h =
 pub arrives→ : (arrivals : List ℕ) (i : ℕ) → So (arrives arrivals i) → 1 ≤ firstWord arrivals i
 unfolding arrives
 arrives→ arrivals i h = ⊎-elim (λ z. absurd (refuted (eq-eqb (firstWord arrivals i) 0 z) (denied _ h))) (λ z. z) (eq-zero-or-pos (firstWord arrivals i))
-
-pred-below : (w n : ℕ) → 1 ≤ w → w ≤ n → pred w < n
-pred-below zero n l m = absurd (omega arith)
-pred-below (suc w) n l m = m
 
 module _ {t : Slot} {arrivals : List ℕ} {cs : List Cell} where
   inhaled-none : Inhaled t arrivals 0 cs cs
@@ -130,14 +120,14 @@ module _ {t : Slot} {arrivals : List ℕ} {cs : List Cell} where
         was = ⊎-elim (λ e. e) (λ w. absurd (omega (arith, place≡ (h .old k (omega (arith, h .long)) w)))) (eq-zero-or-pos (nth cs k .place))
 
         old′ : (j : ℕ) → j < length cs → 1 ≤ nth cs j .place → nth (set us k c) j ≡ nth cs j
-        old′ j m w = ⊎-elim (λ s. absurd (omega (arith, was, ap (λ (q : ℕ). nth cs q .place) (s .0)))) (λ s. s .1 ∙ h .old j m w) (stored us k c l j)
+        old′ j m w = ⊎-elim (λ s. absurd (omega (arith, was, ap (λ (q : ℕ). nth cs q .place) (s .0)))) (λ s. s .1 ∙ h .old j m w) (stored free us k c l j)
 
         new′ : (j : ℕ) → j < length cs → nth cs j .place ≡ 0 → (nth (set us k c) j ≡ nth cs j) ⊎ ((q : ℕ) × (q < suc i) × So (arrives arrivals q) × (nth (set us k c) j ≡ arrival t arrivals q))
         new′ j m w =
             ⊎-elim
             (λ s. inr (i, omega arith, x, s .1))
             (λ s. ⊎-elim (λ y. inl (s .1 ∙ y)) (λ y. inr (y .0, omega (arith, y .1), y .2, s .1 ∙ y .3)) (h .new j m w))
-            (stored us k c l j)
+            (stored free us k c l j)
 
         came′ : (j : ℕ) → j < suc i → So (arrives arrivals j) → (q : ℕ) × (q < length cs) × (nth cs q .place ≡ 0) × (nth (set us k c) q ≡ arrival t arrivals j)
         came′ j m y =
@@ -147,7 +137,7 @@ module _ {t : Slot} {arrivals : List ℕ} {cs : List Cell} where
             (eq-or-lt-of-le {n = j} {m = i} (omega arith))
           where
             earlier : (q : ℕ) × (q < length cs) × (nth cs q .place ≡ 0) × (nth us q ≡ arrival t arrivals j) → (q : ℕ) × (q < length cs) × (nth cs q .place ≡ 0) × (nth (set us k c) q ≡ arrival t arrivals j)
-            earlier q = (q .0, q .1, q .2, ⊎-elim (λ s. absurd (omega (arith, z, ap (λ (j : ℕ). nth us j .place) (s .0), place≡ (q .3)))) (λ s. s .1 ∙ q .3) (stored us k c l (q .0)))
+            earlier q = (q .0, q .1, q .2, ⊎-elim (λ s. absurd (omega (arith, z, ap (λ (j : ℕ). nth us j .place) (s .0), place≡ (q .3)))) (λ s. s .1 ∙ q .3) (stored free us k c l (q .0)))
 
         -- what arrived before came at a lower input
         low : (j : ℕ) → j < length cs → nth cs j .place ≡ 0 → 1 ≤ nth us j .place → nth us j .input .0 < i
@@ -157,9 +147,9 @@ module _ {t : Slot} {arrivals : List ℕ} {cs : List Cell} where
             → nth (set us k c) a .input .0 ≡ nth (set us k c) b .input .0 → a ≡ b
         once′ a b ha hb za zb wa wb e =
             ⊎-elim
-            (λ s. ⊎-elim (λ q. omega (arith, s .0, q .0)) (λ q. absurd (omega (arith, input≡ (s .1), input≡ (q .1), low b hb zb (rw (q .1) at wb)))) (stored us k c l b))
-            (λ s. ⊎-elim (λ q. absurd (omega (arith, input≡ (s .1), input≡ (q .1), low a ha za (rw (s .1) at wa)))) (λ q. h .once a b ha hb za zb (rw (s .1) at wa) (rw (q .1) at wb) (omega (arith, input≡ (s .1), input≡ (q .1)))) (stored us k c l b))
-            (stored us k c l a)
+            (λ s. ⊎-elim (λ q. omega (arith, s .0, q .0)) (λ q. absurd (omega (arith, input≡ (s .1), input≡ (q .1), low b hb zb (rw (q .1) at wb)))) (stored free us k c l b))
+            (λ s. ⊎-elim (λ q. absurd (omega (arith, input≡ (s .1), input≡ (q .1), low a ha za (rw (s .1) at wa)))) (λ q. h .once a b ha hb za zb (rw (s .1) at wa) (rw (q .1) at wb) (omega (arith, input≡ (s .1), input≡ (q .1)))) (stored free us k c l b))
+            (stored free us k c l a)
 
     -- one input; there is room while fewer are live than there are records
     inhaled-enter : (So (arrives arrivals i) → live us < length us) → Inhaled t arrivals (suc i) cs (enter t arrivals i us)

@@ -18,11 +18,12 @@ use Rattle.laws.specs.Least.{Least, least-is, lowest, lowest-is, count-onto}
 use Rattle.laws.specs.Lists.{getD-tabulate}
 use Rattle.laws.specs.declared.Found.{Found}
 use Rattle.laws.specs.declared.Found.the-variants.{At, Nothing}
+use Rattle.rules.specs.declared.Input.{Input}
 use Rattle.rules.specs.declared.Output.{Output}
 use Rattle.rules.specs.declared.Slot.{Slot}
 use Rattle.rules.specs.declared.Cell.{Cell}
-use Rattle.rules.specs.Cells.{nth, outputOf, isWaiting, sameOutput, before}
-use Rattle.rules.specs.Phases.{conflict, isOpen, firstOpen, none, add, addFound, round, matchOf, isTakenOutput, moves, servedWord, matchWords}
+use Rattle.rules.specs.Cells.{nth, outputOf, isWaiting, sameInput, sameOutput, before}
+use Rattle.rules.specs.Phases.{conflict, isOpen, firstOpen, none, add, addFound, round, matchOf, isTakenInput, isTakenOutput, moves, servedWord, matchWords}
 use Rattle.rules.specs.Model.{Match}
 use Rattle.ideal.specs.Cells.{waiting→, by-output, conflict-self, conflict-sym, before-strict}
 use Rattle.ideal.specs.Fit.{Fit, untied}
@@ -58,6 +59,17 @@ module _ (cs : List Cell) (m : ℕ → Bool) where
       (λ x. let d = any→ (λ j. m j && conflict (nth cs j) (nth cs k)) (length cs) x in let b = both _ _ (d .2) in (d .0, d .1, b .0, b .1))
       (λ x. absurd (refuted (join _ _ w (deny _ x)) h))
       (passes (any (λ j. m j && conflict (nth cs j) (nth cs k)) (length cs)))
+
+  pub takenIn→ : (i : Input) → So (isTakenInput m cs i) → (d : ℕ) × (d < length cs) × So (m d) × (nth cs d .input .0 ≡ i .0)
+  unfolding isTakenInput sameInput
+  takenIn→ i h =
+      let d = any→ (λ k. m k && sameInput (nth cs k .input) i) (length cs) h in
+      let b = both (m (d .0)) _ (d .2) in
+      (d .0, d .1, b .0, eqb-true _ _ (b .1))
+
+  pub →takenIn : (i : Input) (d : ℕ) → d < length cs → So (m d) → nth cs d .input .0 ≡ i .0 → So (isTakenInput m cs i)
+  unfolding isTakenInput sameInput
+  →takenIn i d l x e = →any (λ k. m k && sameInput (nth cs k .input) i) (length cs) d l (join _ _ x (eq-eqb _ _ e))
 
   pub taken→ : (o : Output) → So (isTakenOutput m cs o) → (d : ℕ) × (d < length cs) × So (m d) × (nth cs d .output .0 ≡ o .0)
   unfolding isTakenOutput sameOutput

@@ -2,6 +2,7 @@
 -- Assumes nothing.
 use Prim.Native.Nat.{ℕ, zero, suc, _+_, _*_, _≤_, _<_}
 use mathlib.Core.Path.{_≡_, refl, sym, ap, _∙_}
+use mathlib.Core.Logic.{_⊎_, inl, inr, ⊎-elim}
 use mathlib.Core.Bool.{Bool, true, false, cond}
 use mathlib.Core.List.{List, [], _∷_, _++_}
 use native.Mathlib.Omega.{arith}
@@ -11,6 +12,7 @@ use lib.Dec.{eqb}
 use lib.ListN.{length, getD, set, take, drop, replicate, length-set, length-append, List·getD-append}
 use lib.Seq.{ext-getD, getD-at, getD-append-add, getD-set-same, getD-set-other, sets, sets-eq, take-at}
 use borrow.Author.Tests.{eqb-true, eqb-false}
+use Rattle.laws.specs.Tests.{passes}
 use Rattle.laws.specs.Walk.{over, over-zero, over-more, below-suc}
 
 -- f at the numbers below n
@@ -96,3 +98,11 @@ pub take-replicate : {A : Type 0} (n m : ℕ) (a : A) → n ≤ m → take n (re
 take-replicate zero m a h = refl
 take-replicate (suc n) zero a h = absurd (omega arith)
 take-replicate {A} (suc n) (suc m) a h = ap (λ (l : List A). a ∷ l) (take-replicate n m a (omega arith))
+
+-- what stands at j after a store at k: what was stored, or what stood there
+pub stored : {A : Type 0} (d : A) (l : List A) (k : ℕ) (x : A) → k < length l → (j : ℕ) → ((j ≡ k) × (getD (set l k x) j d ≡ x)) ⊎ ((j ≡ k → ⊥) × (getD (set l k x) j d ≡ getD l j d))
+stored d l k x h j =
+    ⊎-elim
+    (λ b. let e : j ≡ k = eqb-true j k b in inl (e, rw e (getD-set-same l k x d h)))
+    (λ b. inr (eqb-false j k b, getD-set-other l k j x d (eqb-false j k b)))
+    (passes (eqb j k))

@@ -3,7 +3,7 @@
 use mathlib.Core.Path.{_≡_}
 use mathlib.Core.Logic.{_⊎_, inl, inr, ⊎-elim}
 use mathlib.Core.Bool.{Bool, So, true, false, _&&_, _||_}
-use Prim.Native.Nat.{ℕ, _≤_, _<_}
+use Prim.Native.Nat.{ℕ, zero, suc, pred, _≤_, _<_}
 use native.Mathlib.Omega.{arith}
 use native.Mathlib.Nat.{eq-or-lt-of-le}
 use lib.Dec.{ltb, eqb}
@@ -81,3 +81,8 @@ strict-back before s = record { irreflexive = s .irreflexive; transitive = λ a 
 
 pub strict-one-way : {A : Type 0} (before : A → A → Bool) → Strict before → (a b : A) → So (before a b) → No (before b a)
 strict-one-way before s a b h = to-no (λ k. refuted (s .transitive a b a h k) (s .irreflexive a))
+
+-- the number before one from 1 to n is below n
+pub pred-below : (w n : ℕ) → 1 ≤ w → w ≤ n → pred w < n
+pred-below zero n l m = absurd (omega arith)
+pred-below (suc w) n l m = m

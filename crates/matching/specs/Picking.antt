@@ -10,7 +10,7 @@ use native.Mathlib.Nat.{add-zero, add-suc}
 use lib.Dec.{eqb}
 use lib.ListN.{length, getD, set, length-set}
 use lib.Seq.{ext-getD, getD-set-same, getD-set-other}
-use borrow.Author.Tests.{eqb-true, eqb-false, eq-eqb}
+use borrow.Author.Tests.{eqb-true, eqb-false}
 use Rattle.laws.specs.Tests.{No, passes, refuted, to-no, both, join, denied, deny, same-test}
 use Rattle.laws.specs.Walk.{over, over-more}
 use Rattle.laws.specs.Count.{any, any→, →any}
@@ -19,12 +19,11 @@ use Rattle.laws.specs.declared.Found.{Found}
 use Rattle.laws.specs.declared.Found.the-variants.{At, Nothing}
 use Rattle.ports.specs.Ports.{has, Added}
 use Rattle.ports.specs.PortLaws.{has-none}
-use Rattle.rules.specs.declared.Input.{Input}
 use Rattle.rules.specs.declared.Cell.{Cell}
-use Rattle.rules.specs.Cells.{free, placed, nth, inputOf, outputOf, isWaiting, sameInput, before}
+use Rattle.rules.specs.Cells.{free, placed, nth, inputOf, outputOf, isWaiting, before}
 use Rattle.rules.specs.Phases.{conflict, isOpen, firstOpen, none, add, addFound, round, matchOf, isTakenInput, isTakenOutput, moved}
 use Rattle.ideal.specs.Cells.{waiting→, conflict→, by-input, by-output, conflict-self, Same, before-same}
-use Rattle.ideal.specs.Match.{in-add, to-add, self-add, open→, taken→, →taken}
+use Rattle.ideal.specs.Match.{in-add, to-add, self-add, open→, takenIn→, →takenIn, taken→, →taken}
 use Rattle.ideal.specs.Phases.{length-moved, moved-yes, moved-no}
 use Rattle.matching.specs.declared.Picked.{Picked}
 
@@ -59,17 +58,6 @@ pub record Shows (cs : List Cell) (p : ℕ → Bool) (us : List Cell) (q : Picke
 -- What the code's masks say of a record -------------------------------------------------------------
 
 module _ (cs : List Cell) (p : ℕ → Bool) where
-  takenIn→ : (i : Input) → So (isTakenInput p cs i) → (d : ℕ) × (d < length cs) × So (p d) × (nth cs d .input .0 ≡ i .0)
-  unfolding isTakenInput sameInput
-  takenIn→ i h =
-      let d = any→ (λ k. p k && sameInput (nth cs k .input) i) (length cs) h in
-      let b = both (p (d .0)) _ (d .2) in
-      (d .0, d .1, b .0, eqb-true _ _ (b .1))
-
-  →takenIn : (i : Input) (d : ℕ) → d < length cs → So (p d) → nth cs d .input .0 ≡ i .0 → So (isTakenInput p cs i)
-  unfolding isTakenInput sameInput
-  →takenIn i d l x e = →any (λ k. p k && sameInput (nth cs k .input) i) (length cs) d l (join _ _ x (eq-eqb _ _ e))
-
   -- a record is open where it is a candidate by the taken ports
   open-masks : (k : ℕ) → k < length cs → No (p k) → isOpen cs p k ≡ candidate (λ i. isTakenInput p cs (inputOf i)) (λ o. isTakenOutput p cs (outputOf o)) (nth cs k)
   unfolding isOpen candidate
@@ -80,7 +68,7 @@ module _ (cs : List Cell) (p : ℕ → Bool) where
       to h =
           let b = both (isWaiting (nth cs k)) _ h in
           let clash : (d : ℕ) → d < length cs → So (p d) → So (conflict (nth cs d) (nth cs k)) → ⊥ = λ d i y c. refuted (→any (λ j. p j && conflict (nth cs j) (nth cs k)) (length cs) d i (join _ _ y c)) (denied _ (b .1)) in
-          join _ _ (join _ _ (b .0) (deny _ (to-no (λ y. let d = takenIn→ (nth cs k .input) y in clash (d .0) (d .1) (d .2) (by-input _ _ (d .3))))))
+          join _ _ (join _ _ (b .0) (deny _ (to-no (λ y. let d = takenIn→ cs p (nth cs k .input) y in clash (d .0) (d .1) (d .2) (by-input _ _ (d .3))))))
           (deny _ (to-no (λ y. let d = taken→ cs p (nth cs k .output) y in clash (d .0) (d .1) (d .2) (by-output _ _ (d .3)))))
 
       from : So (isWaiting (nth cs k) && not (isTakenInput p cs (nth cs k .input)) && not (isTakenOutput p cs (nth cs k .output)))
@@ -92,7 +80,7 @@ module _ (cs : List Cell) (p : ℕ → Bool) where
           (deny _ (to-no (λ y.
           let d = any→ (λ j. p j && conflict (nth cs j) (nth cs k)) (length cs) y in
           let e = both (p (d .0)) _ (d .2) in
-          ⊎-elim (λ i. refuted (→takenIn (nth cs k .input) (d .0) (d .1) (e .0) i) (denied _ (b .1))) (λ o. refuted (→taken cs p (nth cs k .output) (d .0) (d .1) (e .0) o) (denied _ (a .1))) (conflict→ _ _ (e .1)))))
+          ⊎-elim (λ i. refuted (→takenIn cs p (nth cs k .input) (d .0) (d .1) (e .0) i) (denied _ (b .1))) (λ o. refuted (→taken cs p (nth cs k .output) (d .0) (d .1) (e .0) o) (denied _ (a .1))) (conflict→ _ _ (e .1)))))
 
   -- a picked record is not open, and as a ready one it is no candidate
   picked-shut : (k : ℕ) → k < length cs → So (p k) → No (isOpen cs p k)
