@@ -42,6 +42,33 @@ extern "C" {
 #define TREIKWATER_TAG 4
 #define TREIKWATER_RECORD_WORDS 5u
 
+/* A record by name. An array of them is the same bytes as the flat words, so that a pointer to them
+ * may be passed as the table, by a cast or by treikwater_words: TREIKWATER_TABLE_LENGTH(records)
+ * words long. */
+struct treikwater_record {
+    uint32_t place;
+    uint32_t input;
+    uint32_t output;
+    uint32_t entered;
+    uint32_t tag;
+};
+
+#if defined __cplusplus && __cplusplus >= 201103L
+#define TREIKWATER_ASSERT static_assert
+#elif defined __STDC_VERSION__ && __STDC_VERSION__ >= 201112L
+#define TREIKWATER_ASSERT _Static_assert
+#endif
+#ifdef TREIKWATER_ASSERT
+TREIKWATER_ASSERT(sizeof(struct treikwater_record) == TREIKWATER_RECORD_WORDS * sizeof(uint32_t),
+                  "a record is five words and nothing else");
+#undef TREIKWATER_ASSERT
+#endif
+
+static inline uint32_t *treikwater_words(struct treikwater_record *records)
+{
+    return &records->place;
+}
+
 /* The places. A free record is all zeros. */
 #define TREIKWATER_FREE 0u
 #define TREIKWATER_WAITING 1u /* in its input unit */

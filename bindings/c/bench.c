@@ -10,13 +10,22 @@
 #define MOST_MATCHES TREIKWATER_MATCHES_LENGTH(TREIKWATER_MOST_PORTS, TREIKWATER_MOST_SPEEDUP)
 #define MOST_EXHALED TREIKWATER_EXHALED_LENGTH(TREIKWATER_MOST_PORTS)
 
-typedef uint32_t record[TREIKWATER_RECORD_WORDS];
+typedef struct treikwater_record record;
 typedef uint32_t arrival[TREIKWATER_ARRIVAL_WORDS];
+
+/* Each name of a record stands for the word at its place. */
+#define NAMES_WORD(name, word) \
+    _Static_assert(offsetof(record, name) == (word) * sizeof(uint32_t), #name " is that word")
+NAMES_WORD(place, TREIKWATER_PLACE);
+NAMES_WORD(input, TREIKWATER_INPUT);
+NAMES_WORD(output, TREIKWATER_OUTPUT);
+NAMES_WORD(entered, TREIKWATER_ENTERED);
+NAMES_WORD(tag, TREIKWATER_TAG);
 
 /* A switch as its owner keeps it. */
 struct owned {
     uint32_t numbers[TREIKWATER_NUMBER_WORDS];
-    uint32_t table[TREIKWATER_TABLE_LENGTH(ONE_TOO_MANY)];
+    record table[ONE_TOO_MANY];
     size_t records;
 };
 
@@ -39,8 +48,8 @@ static void fresh(uint32_t ports, uint32_t speedup, size_t records)
     set_numbers(ports, speedup, 9);
     memset(bench.table, 7, sizeof bench.table);
     bench.records = records;
-    number = treikwater_fresh_start(bench.numbers, TREIKWATER_NUMBER_WORDS, bench.table,
-                                    TREIKWATER_TABLE_LENGTH(records));
+    number = treikwater_fresh_start(bench.numbers, TREIKWATER_NUMBER_WORDS,
+                                    treikwater_words(bench.table), TREIKWATER_TABLE_LENGTH(records));
     printf("fresh N %u S %u records %zu: %u\n", ports, speedup, records, number);
 }
 
@@ -57,7 +66,7 @@ static size_t count_live(void)
     size_t live = 0;
 
     for (size_t k = 0; k < bench.records; k++)
-        live += bench.table[TREIKWATER_TABLE_LENGTH(k) + TREIKWATER_PLACE] != TREIKWATER_FREE;
+        live += bench.table[k].place != TREIKWATER_FREE;
     return live;
 }
 
@@ -80,7 +89,7 @@ static void slot(const arrival *arrivals)
     uint32_t number;
 
     memcpy(words, arrivals, ports * sizeof(arrival));
-    number = treikwater_slot(bench.numbers, TREIKWATER_NUMBER_WORDS, bench.table,
+    number = treikwater_slot(bench.numbers, TREIKWATER_NUMBER_WORDS, treikwater_words(bench.table),
                              TREIKWATER_TABLE_LENGTH(bench.records), words,
                              TREIKWATER_ARRIVALS_LENGTH(ports), matches, matches_length, exhaled,
                              TREIKWATER_EXHALED_LENGTH(ports));
@@ -103,7 +112,8 @@ static void sizes(void)
     fresh(2, 9, 4);
     fresh(2, 3, TREIKWATER_MOST_RECORDS);
     fresh(2, 3, ONE_TOO_MANY);
-    printf("two words for numbers: %u\n", treikwater_fresh_start(bench.numbers, 2, bench.table, 5));
+    printf("two words for numbers: %u\n",
+           treikwater_fresh_start(bench.numbers, 2, treikwater_words(bench.table), 5));
 }
 
 static void fit_tables(void)

@@ -1,8 +1,10 @@
 //! Treikwater: a scheduler for crossbar cell switches of up to 16 × 16 ports, proved in Rattle.
 //!
 //! [`Switch`] and [`Table`] are the safe calls, in cells and ports. [`words`] has the same calls on
-//! the flat words that the library itself takes, without an allocation.
+//! the flat words that the library itself takes, without an allocation, and [`records`] views such
+//! words as records and records as words, without a copy.
 
+pub mod records;
 mod refusal;
 mod switch;
 mod table;
