@@ -37,7 +37,7 @@ unfolding records
 records-wordsOf cs = omega (arith, length-wordsOf cs)
 
 -- field r of record k
-wordsOf-at : (cs : List Cell) (k r : ℕ) → k < length cs → r < width → getD (wordsOf cs) (k * width + r) 0 ≡ getD (fields (nth cs k)) r 0
+pub wordsOf-at : (cs : List Cell) (k r : ℕ) → k < length cs → r < width → getD (wordsOf cs) (k * width + r) 0 ≡ getD (fields (nth cs k)) r 0
 unfolding wordsOf
 wordsOf-at cs k r l m = getD-blocks (λ k. fields (nth cs k)) width (λ k. refl) (length cs) k r 0 l m
 

@@ -1,0 +1,4 @@
+pub mod Arrays
+pub mod Calls
+pub mod Laying
+pub mod Rows
