@@ -10,7 +10,7 @@ use lib.Dec.{ltb}
 use lib.ListN.{getD}
 use borrow.Author.Tests.{eqb-true, eqb-false, eq-eqb, ne-eqb, ltb-true, ltb-false}
 use Rattle.laws.specs.Tests.{No, passes, refuted, both, join, either, on-left, on-right, denied, deny}
-use Rattle.laws.specs.Order.{Strict, lower, lower-tie, lower-strict, ltb-strict, strict-on}
+use Rattle.laws.specs.Order.{Strict, Ranks, lower, lower-tie, lower-ranks, ltb-ranks, ranks-on}
 use Rattle.rules.specs.declared.Output.{Output}
 use Rattle.rules.specs.declared.Cell.{Cell}
 use Rattle.rules.specs.Cells.{isFree, isWaiting, isReady, isLive, isReadyFor, sameInput, sameOutput, sameSlot, sameEntry, older, readingFor, before, placed}
@@ -126,14 +126,20 @@ same-placed p c = →same (placed p c) c (record { input = refl; output = refl; 
 
 -- The orders -------------------------------------------------------------------------------------
 
-pub older-strict : Strict older
+pub older-ranks : Ranks older
 unfolding older
-older-strict = lower-strict (λ (c : Cell). c .entered .0) (λ c d. ltb (c .input .0) (d .input .0)) (strict-on ltb ltb-strict (λ (c : Cell). c .input .0))
+older-ranks = lower-ranks (λ (c : Cell). c .entered .0) (λ c d. ltb (c .input .0) (d .input .0)) (ranks-on ltb ltb-ranks (λ (c : Cell). c .input .0))
 
--- for any reading, "stands before" is irreflexive and transitive
-pub before-strict : (r : List ℕ) → Strict (before r)
+pub older-strict : Strict older
+older-strict = older-ranks .strict
+
+-- for any reading, "stands before" ranks the cells
+pub before-ranks : (r : List ℕ) → Ranks (before r)
 unfolding before
-before-strict r = lower-strict (λ (c : Cell). readingFor r (c .output)) older older-strict
+before-ranks r = lower-ranks (λ (c : Cell). readingFor r (c .output)) older older-ranks
+
+pub before-strict : (r : List ℕ) → Strict (before r)
+before-strict r = before-ranks r .strict
 
 -- the orders do not look at the place or the tag
 pub older-same : (c c′ d d′ : Cell) → Same c c′ → Same d d′ → older c d ≡ older c′ d′

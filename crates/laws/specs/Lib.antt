@@ -4,6 +4,7 @@ pub mod Count
 pub mod Order
 pub mod Choice
 pub mod Least
+pub mod First
 pub mod Lists
 pub mod Folds
 pub mod Texts

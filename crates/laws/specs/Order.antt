@@ -1,6 +1,6 @@
 -- Orders as tests: one number decides; where it is equal, the rest does.
 -- Assumes nothing.
-use mathlib.Core.Path.{_≡_}
+use mathlib.Core.Path.{_≡_, _∙_}
 use mathlib.Core.Logic.{_⊎_, inl, inr, ⊎-elim}
 use mathlib.Core.Bool.{Bool, So, true, false, _&&_, _||_}
 use Prim.Native.Nat.{ℕ, zero, suc, pred, _≤_, _<_}
@@ -81,6 +81,42 @@ strict-back before s = record { irreflexive = s .irreflexive; transitive = λ a 
 
 pub strict-one-way : {A : Type 0} (before : A → A → Bool) → Strict before → (a b : A) → So (before a b) → No (before b a)
 strict-one-way before s a b h = to-no (λ k. refuted (s .transitive a b a h k) (s .irreflexive a))
+
+-- an order that ranks: of what stands before something, any third stands behind the one or before the other
+pub record Ranks {A : Type 0} (before : A → A → Bool) : Type 0 where
+  pub strict : Strict before
+  pub between : (a b c : A) → So (before a c) → So (before a b) ⊎ So (before b c)
+
+pub ltb-ranks : Ranks ltb
+ltb-ranks = record {
+  strict = ltb-strict;
+  between = λ a b c h. ⊎-elim inl (λ x. inr (lt-ltb b c (omega (arith, ltb-true a c h, ltb-false a b x)))) (passes (ltb a b));
+}
+
+pub lower-ranks : {A : Type 0} (f : A → ℕ) (rest : A → A → Bool) → Ranks rest → Ranks {A = A} (λ a b. lower (f a) (f b) (rest a b))
+lower-ranks {A} f rest w = record { strict = lower-strict f rest (w .strict); between = third }
+  where
+    third : (a b c : A) → So (lower (f a) (f c) (rest a c)) → So (lower (f a) (f b) (rest a b)) ⊎ So (lower (f b) (f c) (rest b c))
+    third a b c h =
+        ⊎-elim
+        (λ x. inl (lower-below _ _ _ (ltb-true _ _ x)))
+        (λ x.
+        let l : f b ≤ f a = ltb-false (f a) (f b) x in
+        ⊎-elim
+        (λ y. inr (lower-below _ _ _ (omega arith)))
+        (λ y.
+        ⊎-elim
+        (λ z. inr (lower-below _ _ _ (omega (arith, ltb-true (f b) (f a) z, y .0))))
+        (λ z.
+        let e : f a ≡ f b = omega (arith, ltb-false (f b) (f a) z) in
+        let q : f b ≡ f c = omega (arith, y .0) in
+        ⊎-elim (λ v. inl (lower-equal _ _ _ e ∙ v)) (λ v. inr (lower-equal _ _ _ q ∙ v)) (w .between a b c (y .1)))
+        (passes (ltb (f b) (f a))))
+        (lower→ _ _ _ h))
+        (passes (ltb (f a) (f b)))
+
+pub ranks-on : {A B : Type 0} (before : A → A → Bool) → Ranks before → (f : B → A) → Ranks {A = B} (λ i j. before (f i) (f j))
+ranks-on before w f = record { strict = strict-on before (w .strict) f; between = λ i j k. w .between (f i) (f j) (f k) }
 
 -- the number before one from 1 to n is below n
 pub pred-below : (w n : ℕ) → 1 ≤ w → w ≤ n → pred w < n

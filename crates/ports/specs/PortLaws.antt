@@ -1,21 +1,21 @@
 -- The laws of sets of ports: what shifts, masks and sums of digits compute, how many ports are in a set, and that a set is what its members say.
 -- Assumes nothing.
 use mathlib.Core.Path.{_≡_, refl, sym, ap, _∙_, subst}
-use mathlib.Core.Bool.{Bool, So, true, false}
+use mathlib.Core.Bool.{Bool, So, true, false, not, _&&_}
 use mathlib.Core.Logic.{_⊎_, inl, inr}
-use Prim.Native.Nat.{ℕ, zero, suc, _+_, _-_, _*_, _/_, _%_, _^_, _≤_, _<_, max, suc-le-suc}
-use native.Mathlib.Nat.{div-one, mod-lt, zero-lt-suc, pow-suc, mul-div-cancel, mul-mod-left, max-zero, max-eq-right, max-le, le-of-suc-le-suc, not-suc-le-zero, mod-eq-of-lt, one-mul}
+use Prim.Native.Nat.{ℕ, zero, suc, _+_, _-_, _*_, _/_, _%_, _^_, _≤_, _<_, min, max, suc-le-suc}
+use native.Mathlib.Nat.{div-one, mod-lt, zero-lt-suc, pow-suc, mul-div-cancel, mul-mod-left, max-zero, max-eq-right, max-le, min-le-left, le-of-suc-le-suc, not-suc-le-zero, mod-eq-of-lt, one-mul}
 use native.Mathlib.Numerals.{one-add}
 use native.Mathlib.Omega.{arith}
 use borrow.Author.Tests.{eqb-true, eqb-false}
 use lib.Dec.{eqb}
 use lib.Arith.{digits-mod, lt-one}
-use lib.Pow.{shr-shr, pow-lt}
-use lib.Bits.{bitOr, or-step, or-shr, or-zero-r, and-mask, bitAnd}
+use lib.Pow.{shr-shr, pow-lt, pow-pos}
+use lib.Bits.{bitOr, or-step, or-shr, or-zero-r, bitAnd, and-mask, and-step, and-shr, bitXor, differ, xor-step, xor-shr}
 use lib.Count.{ones, ones-step, trailingZeros, under}
 use Rattle.laws.specs.Tests.{No, refuted}
 use Rattle.laws.specs.Count.{bit, count, count-zero, count-suc, count-either, count-more, count-one}
-use Rattle.ports.specs.Ports.{digit, has, Added, Removed, Lowest}
+use Rattle.ports.specs.Ports.{digit, has, Added, Removed, Except, Lowest}
 
 two-pos : zero < 2
 two-pos = zero-lt-suc 1
@@ -159,6 +159,50 @@ removed-by-shift m p h e = subst (λ (x : ℕ). Removed m p (m - x)) (sym (shift
   outside = of-zero (m - 2 ^ p) p (less-same p m (to-digit m p e));
   others = λ q n. of-digit (m - 2 ^ p) m q q (less-other p q m (to-digit m p e) n);
 })
+
+-- The ports of one set that are not in another -------------------------------------------------
+
+digit-cases : (P : ℕ → Type 0) → P 0 → P 1 → (d : ℕ) → d < 2 → P d
+digit-cases P z o zero h = z
+digit-cases P z o (suc zero) h = o
+digit-cases P z o (suc (suc d)) h = absurd (omega arith)
+
+and-odd : (a b : ℕ) → bitAnd a b % 2 ≡ min (a % 2) (b % 2)
+and-odd a b = ap (λ (x : ℕ). x % 2) (and-step a b) ∙ digits-mod (bitAnd (a / 2) (b / 2)) (omega (arith, min-le-left (a % 2) (b % 2)))
+
+xor-odd : (a b : ℕ) → bitXor a b % 2 ≡ differ (a % 2) (b % 2)
+xor-odd a b = ap (λ (x : ℕ). x % 2) (xor-step a b) ∙ digits-mod (bitXor (a / 2) (b / 2)) (small (a % 2) (mod-lt a two-pos) (b % 2) (mod-lt b two-pos))
+  where
+    small : (x : ℕ) → x < 2 → (y : ℕ) → y < 2 → differ x y < 2
+    small = digit-cases (λ (x : ℕ). (y : ℕ) → y < 2 → differ x y < 2) (λ y h. h) (digit-cases (λ (y : ℕ). differ 1 y < 2) (omega arith) (omega arith))
+
+except-digit : (a b q : ℕ) → digit (bitXor a (bitAnd a b)) q ≡ differ (digit a q) (min (digit a q) (digit b q))
+unfolding digit
+except-digit a b q =
+    ap (λ (x : ℕ). x % 2) (xor-shr a (bitAnd a b) q ∙ ap (bitXor (a / 2 ^ q)) (and-shr a b q))
+    ∙ xor-odd (a / 2 ^ q) (bitAnd (a / 2 ^ q) (b / 2 ^ q))
+    ∙ ap (differ (a / 2 ^ q % 2)) (and-odd (a / 2 ^ q) (b / 2 ^ q))
+
+pub except-by-digits : (m k : ℕ) → Except m k (bitXor m (bitAnd m k))
+unfolding has
+except-by-digits m k = record { each = λ q. ap (λ (d : ℕ). eqb d 1) (except-digit m k q) ∙ go (digit m q) (digit-lt m q) (digit k q) (digit-lt k q) }
+  where
+    go : (d : ℕ) → d < 2 → (e : ℕ) → e < 2 → eqb (differ d (min d e)) 1 ≡ eqb d 1 && not (eqb e 1)
+    go =
+        digit-cases (λ (d : ℕ). (e : ℕ) → e < 2 → eqb (differ d (min d e)) 1 ≡ eqb d 1 && not (eqb e 1))
+        (digit-cases (λ (e : ℕ). eqb (min 0 e) 1 ≡ false) refl refl)
+        (digit-cases (λ (e : ℕ). eqb (differ 1 (min 1 e)) 1 ≡ not (eqb e 1)) refl refl)
+
+-- all ports
+pub has-all : (q : ℕ) → q < 16 → So (has 65535 q)
+has-all q l = of-one 65535 q (every 16 q l)
+  where
+    every : (k q : ℕ) → q < k → digit (2 ^ k - 1) q ≡ 1
+    every zero q h = absurd (omega arith)
+    every (suc k) zero h = digit-zero (2 ^ suc k - 1) ∙ omega (arith, pow-suc 2 k, pow-pos k)
+    every (suc k) (suc q) h =
+        let e : (2 ^ suc k - 1) / 2 ≡ 2 ^ k - 1 = omega (arith, pow-suc 2 k, pow-pos k) in
+        digit-suc (2 ^ suc k - 1) q ∙ ap (λ (x : ℕ). digit x q) e ∙ every k q (omega arith)
 
 -- How many -------------------------------------------------------------------------------------
 

@@ -1,7 +1,7 @@
 -- Sets of ports as numbers: port q is in the set m when binary digit q of m is 1.
 -- Assumes nothing.
 use mathlib.Core.Path.{_≡_}
-use mathlib.Core.Bool.{Bool, So}
+use mathlib.Core.Bool.{Bool, So, not, _&&_}
 use Prim.Native.Nat.{ℕ, _/_, _%_, _^_, _<_}
 use lib.Dec.{eqb}
 use Rattle.laws.specs.Tests.{No}
@@ -23,6 +23,10 @@ pub record Added (m p r : ℕ) : Type 0 where
 pub record Removed (m p r : ℕ) : Type 0 where
   pub outside : No (has r p)
   pub others : (q : ℕ) → (q ≡ p → ⊥) → has r q ≡ has m q
+
+-- r is the set m without the ports of the set k
+pub record Except (m k r : ℕ) : Type 0 where
+  pub each : (q : ℕ) → has r q ≡ has m q && not (has k q)
 
 -- r is the lowest port in the set m
 pub record Lowest (m r : ℕ) : Type 0 where

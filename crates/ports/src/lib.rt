@@ -3,7 +3,7 @@ ghost use mathlib.Core.Path.{_≡_};
 ghost use mathlib.Core.Bool.{true};
 ghost use Prim.Native.Nat.{_<_};
 ghost use Rattle.laws.specs.Count.{count};
-ghost use Rattle.ports.specs.Ports.{has, Added, Removed, Lowest};
+ghost use Rattle.ports.specs.Ports.{has, Added, Removed, Except, Lowest};
 
 // Whether the port is in the set. No port from 16 on is in one, and a mask cannot be shifted by so much.
 pub fn holds(mask: u16, port: u32) -> bool
@@ -29,6 +29,13 @@ pub fn without(mask: u16, port: u32) -> u16
     ensures { λ r. ⌜ Removed mask port r ⌝ }
 {
     mask - (1u16 << port)
+}
+
+// The ports of a set that are not in another one.
+pub fn except(mask: u16, other: u16) -> u16
+    ensures { λ r. ⌜ Except mask other r ⌝ }
+{
+    mask ^ (mask & other)
 }
 
 // How many ports are in the set.

@@ -1,0 +1,272 @@
+-- The heads: what a new one leaves of the others, and how they change where a record joins or a cell is picked.
+-- Assumes nothing.
+use Prim.Native.Nat.{ℕ, zero, suc, _+_, _*_, _<_, _≤_}
+use mathlib.Core.Path.{_≡_, refl, sym, ap, _∙_, subst}
+use mathlib.Core.Logic.{_⊎_, inl, inr, ⊎-elim}
+use mathlib.Core.Bool.{Bool, So, true, false, not, cond, _&&_}
+use mathlib.Core.List.{List}
+use native.Mathlib.Omega.{arith}
+use native.Mathlib.Numerals.{add-one}
+use borrow.Author.Tests.{eqb-true, eqb-false, eq-eqb, ne-eqb}
+use lib.Dec.{eqb}
+use lib.ListN.{length, getD, set, length-set, replicate, getD-replicate, length-replicate}
+use lib.Seq.{getD-set-same, getD-set-other}
+use Rattle.laws.specs.Tests.{No, passes, refuted, to-no, both, join, fails-left, fails-right, cond-true, cond-false}
+use Rattle.laws.specs.Least.{least, least-zero, least-more, least-below, Below, sooner, sooner-skip}
+use Rattle.laws.specs.First.{firstOf, firstOf-sooner, firstOf-below}
+use Rattle.laws.specs.declared.Found.{Found}
+use Rattle.laws.specs.declared.Found.the-variants.{At, Nothing}
+use Rattle.ports.specs.Ports.{has, Added, Except}
+use Rattle.ports.specs.PortLaws.{has-none}
+use Rattle.rules.specs.declared.Cell.{Cell}
+use Rattle.rules.specs.Cells.{nth, isWaiting, records, cellsOf}
+use Rattle.ideal.specs.Words.{length-cellsOf}
+use Rattle.queues.specs.Queues.{pair, pairOf, named, nameOf, named-name, isFound, queueWords, headWord, topWord, nextWord, senders, olderAt, waitsFor, waits→, →waits, headBelow, headOf, Chains, Heads, All, But, Ports, Queues, waitingAt, classOf, HeadSet}
+use Rattle.queues.specs.Chains.{chains-kept, chains-link, class-waiting}
+
+-- A new head ----------------------------------------------------------------------------------
+
+and-true : (b : Bool) → b && true ≡ b
+and-true true = refl
+and-true false = refl
+
+-- one input taken out of a set
+pub taken-out : {s i w m : ℕ} → Added 0 i w → Except s w m → No (has m i) × ((a : ℕ) → (a ≡ i → ⊥) → has m a ≡ has s a)
+taken-out {s} {i} {w} {m} d e = (
+  e .each i ∙ fails-right (has s i) (not (has w i)) (ap not (d .inside)),
+  λ a n. e .each a ∙ ap (λ (b : Bool). has s a && not b) (d .others a n ∙ has-none a) ∙ and-true (has s a),
+)
+
+module _ (qs : List ℕ) (i o : ℕ) (x : Found) (m : ℕ) (long : length qs ≡ queueWords) (small : i < 16) (less : o < 16) (here : has m i ≡ isFound x) (there : (a : ℕ) → (a ≡ i → ⊥) → has m a ≡ has (senders qs o) a) where
+  one : List ℕ
+  one = set qs (pair i o) (nameOf x)
+
+  -- another word
+  else : (j : ℕ) → (j ≡ pair i o → ⊥) → (j ≡ 1536 + o → ⊥) → getD (set one (1536 + o) m) j 0 ≡ getD qs j 0
+  unfolding one
+  else j a b = getD-set-other one (1536 + o) j m 0 b ∙ getD-set-other qs (pair i o) j (nameOf x) 0 a
+
+  at-head : getD (set one (1536 + o) m) (pair i o) 0 ≡ nameOf x
+  unfolding one
+  at-head = getD-set-other one (1536 + o) (pair i o) m 0 (omega arith) ∙ getD-set-same qs (pair i o) (nameOf x) 0 (omega arith)
+
+  at-set : getD (set one (1536 + o) m) (1536 + o) 0 ≡ m
+  unfolding one
+  at-set = getD-set-same one (1536 + o) m 0 (rw (length-set qs (pair i o) (nameOf x)) (omega arith))
+
+  pub head-set : HeadSet qs i o x (set (set qs (pair i o) (nameOf x)) (1536 + o) m)
+  unfolding one
+  head-set = record {
+    long = length-set one (1536 + o) m ∙ length-set qs (pair i o) (nameOf x);
+    head = at-head;
+    sends = ap (λ (w : ℕ). has w i) at-set ∙ here;
+    heads = λ a b l k ne. else (pair a b) ne (omega arith);
+    others = λ a b l k ne. ⊎-elim (λ e. same a b ne (eqb-true b o e)) (λ e. let n = eqb-false b o e in ap (λ (w : ℕ). has w a) (else (1536 + b) (omega arith) (λ v. n (omega arith)))) (passes (eqb b o));
+    top = λ p l. else (256 + p) (omega arith) (omega arith);
+    next = λ k l. else (512 + k) (omega arith) (omega arith);
+  }
+    where
+      same : (a b : ℕ) → But i o a b → b ≡ o → has (senders (set one (1536 + o) m) b) a ≡ has (senders qs b) a
+      same a b ne e = rw e (ap (λ (w : ℕ). has w a) at-set ∙ there a (λ v. ne (omega (arith, v, e))))
+
+  -- the same, in the words of the code
+  pub head-set-at : (p h : ℕ) → p ≡ pair i o → h ≡ nameOf x → HeadSet qs i o x (set (set qs p h) (1536 + o) m)
+  head-set-at p h e q = rw (e, q) head-set
+
+same-pair : (x y i o : ℕ) → y < 16 → o < 16 → pair x y ≡ pair i o → (x ≡ i) × (y ≡ o)
+same-pair x y i o m l t = (omega arith, omega arith)
+
+-- Heads below k ---------------------------------------------------------------------------------
+
+pub no-heads : (cs : List Cell) → Heads All cs 0 (replicate queueWords 0)
+unfolding headBelow
+no-heads cs = record {
+  head = λ i o l k z. zeros (pair i o) (omega arith) ∙ sym (ap nameOf (least-zero _ _));
+  sends = λ i o l k z. ap (λ (w : ℕ). has w i) (zeros (1536 + o) (omega arith)) ∙ has-none i ∙ sym (ap isFound (least-zero _ _));
+}
+  where
+    zeros : (i : ℕ) → i < queueWords → _≡_ {A = ℕ} (getD (replicate queueWords 0) i 0) 0
+    zeros i l = getD-replicate queueWords i 0 0 l
+
+module _ (cs : List Cell) (k i o : ℕ) where
+  head-skip : No (waitsFor i o (nth cs k)) → headBelow cs (k + 1) i o ≡ headBelow cs k i o
+  unfolding headBelow
+  head-skip h = least-more _ _ k ∙ sooner-skip _ k _ _ h
+
+  head-join : So (waitsFor i o (nth cs k)) → headBelow cs (k + 1) i o ≡ firstOf (olderAt cs) (headBelow cs k i o) (At k)
+  unfolding headBelow
+  head-join h =
+      least-more _ _ k ∙ ap (λ (b : Bool). sooner (olderAt cs) (headBelow cs k i o) b k) h
+      ∙ sym (firstOf-sooner (olderAt cs) (headBelow cs k i o) k (least-below _ _ k))
+
+  pub head-below : Below k (headBelow cs k i o)
+  unfolding headBelow
+  head-below = least-below _ _ k
+
+pub heads-skip : {cs : List Cell} {k : ℕ} {qs : List ℕ} → No (isWaiting (nth cs k)) → Heads All cs k qs → Heads All cs (k + 1) qs
+heads-skip {cs} {k} n h = record {
+  head = λ i o l m z. h .head i o l m z ∙ sym (ap nameOf (head-skip cs k i o (out i o)));
+  sends = λ i o l m z. h .sends i o l m z ∙ sym (ap isFound (head-skip cs k i o (out i o)));
+}
+  where
+    out : (i o : ℕ) → No (waitsFor i o (nth cs k))
+    out i o = to-no (λ x. refuted (waits→ i o (nth cs k) x .0) n)
+
+-- record k, a waiting cell of input i for output o, joins: ms are qs but for the chains
+module _ {cs : List Cell} {k : ℕ} {qs : List ℕ} (i o : ℕ) (small : i < 16) (less : o < 16) (h : Heads All cs k qs) (w : So (isWaiting (nth cs k))) (a : nth cs k .input .0 ≡ i) (b : nth cs k .output .0 ≡ o) where
+  now-head : (x : Found) → x ≡ headBelow cs k i o → firstOf (olderAt cs) x (waitingAt cs k) ≡ headBelow cs (k + 1) i o
+  unfolding waitingAt
+  now-head x e =
+      ap (λ (v : Found). firstOf (olderAt cs) v (cond (isWaiting (nth cs k)) (At k) Nothing)) e
+      ∙ ap (λ (v : Bool). firstOf (olderAt cs) (headBelow cs k i o) (cond v (At k) Nothing)) w
+      ∙ sym (head-join cs k i o (→waits i o (nth cs k) w a b))
+
+  pub heads-join : {ms ns : List ℕ} → ((j : ℕ) → j < 256 → getD ms j 0 ≡ getD qs j 0) → ((q : ℕ) → q < 16 → senders ms q ≡ senders qs q)
+      → HeadSet ms i o (firstOf (olderAt cs) (named (headWord ms i o)) (waitingAt cs k)) ns → Heads All cs (k + 1) ns
+  heads-join {ms} {ns} e f s = record {
+    head = λ x y l m z. ⊎-elim (λ t. at-pair x y l m (eqb-true (pair x y) (pair i o) t)) (λ t. let n = eqb-false (pair x y) (pair i o) t in s .heads x y l m n ∙ e (pair x y) (omega arith) ∙ h .head x y l m z ∙ sym (ap nameOf (head-skip cs k x y (out x y n)))) (passes (eqb (pair x y) (pair i o)));
+    sends = λ x y l m z. ⊎-elim (λ t. at-sends x y l m (eqb-true (pair x y) (pair i o) t)) (λ t. let n = eqb-false (pair x y) (pair i o) t in s .others x y l m n ∙ ap (λ (v : ℕ). has v x) (f y m) ∙ h .sends x y l m z ∙ sym (ap isFound (head-skip cs k x y (out x y n)))) (passes (eqb (pair x y) (pair i o)));
+  }
+    where
+      out : (x y : ℕ) → (pair x y ≡ pair i o → ⊥) → No (waitsFor x y (nth cs k))
+      out x y n = to-no (λ v. let t = waits→ x y (nth cs k) v in n (omega (arith, t .1, t .2, a, b)))
+
+      joined : firstOf (olderAt cs) (named (headWord ms i o)) (waitingAt cs k) ≡ headBelow cs (k + 1) i o
+      joined = now-head _ (ap named (e (pair i o) (omega arith) ∙ h .head i o small less tt) ∙ named-name (headBelow cs k i o))
+
+      at-pair : (x y : ℕ) → x < 16 → y < 16 → pair x y ≡ pair i o → headWord ns x y ≡ nameOf (headBelow cs (k + 1) x y)
+      at-pair x y l m t = let u = same-pair x y i o m less t in rw (u .0, u .1) (s .head ∙ ap nameOf joined)
+
+      at-sends : (x y : ℕ) → x < 16 → y < 16 → pair x y ≡ pair i o → has (senders ns y) x ≡ isFound (headBelow cs (k + 1) x y)
+      at-sends x y l m t = let u = same-pair x y i o m less t in rw (u .0, u .1) (s .sends ∙ ap isFound joined)
+
+-- A record read ----------------------------------------------------------------------------------
+
+module _ (cs : List Cell) (k : ℕ) {c : Cell} (e : c ≡ nth cs k) where
+  pub is-waiting : c .place ≡ 1 → So (isWaiting (nth cs k))
+  unfolding isWaiting
+  is-waiting h = rw (← e, eq-eqb _ _ h)
+
+  pub not-waiting : (c .place ≡ 1 → ⊥) → No (isWaiting (nth cs k))
+  unfolding isWaiting
+  not-waiting h = rw (← e, ne-eqb _ _ h)
+
+  pub waiting-here : c .place ≡ 1 → waitingAt cs k ≡ At k
+  unfolding waitingAt
+  waiting-here h = cond-true (isWaiting (nth cs k)) (At k) Nothing (is-waiting h)
+
+  pub waiting-none : (c .place ≡ 1 → ⊥) → waitingAt cs k ≡ Nothing
+  unfolding waitingAt
+  waiting-none h = cond-false (isWaiting (nth cs k)) (At k) Nothing (not-waiting h)
+
+pub waiting-below : (n : ℕ) (cs : List Cell) (k : ℕ) → k < n → Below n (waitingAt cs k)
+unfolding waitingAt
+waiting-below n cs k l = go (isWaiting (nth cs k))
+  where
+    go : (b : Bool) → Below n (cond b (At k) Nothing)
+    go true = l
+    go false = tt
+
+pub below-at : (n : ℕ) (x : Found) (k : ℕ) → x ≡ At k → Below n x → k < n
+below-at n x k e h = rw e at h
+
+pub below-more : (k n : ℕ) (x : Found) → k ≤ n → Below k x → Below n x
+below-more k n (At j) l h = omega arith
+below-more k n Nothing l h = tt
+
+-- Record k joins ------------------------------------------------------------------------------------
+
+-- record k was read as c and waits, and qs are the queues of the records below it
+pub record Joins (cs : List Cell) (k : ℕ) (qs : List ℕ) (c : Cell) : Type 0 where
+  pub read : c ≡ nth cs k
+  pub waits : c .place ≡ 1
+  pub inside : k < length cs
+  pub few : length cs ≤ 1024
+  pub ports : Ports cs
+  pub long : length qs ≡ queueWords
+  pub chains : Chains (classOf cs) k qs
+  pub heads : Heads All cs k qs
+
+pub joins : (ws : List ℕ) (k : ℕ) {qs : List ℕ} {c : Cell} → (k < records ws) × ((records ws ≤ 1024) × (Ports (cellsOf ws) × ((length qs ≡ queueWords) × (Chains (classOf (cellsOf ws)) k qs × Heads All (cellsOf ws) k qs))))
+    → c ≡ nth (cellsOf ws) k → c .place ≡ 1 → Joins (cellsOf ws) k qs c
+joins ws k p e w = record {
+  read = e;
+  waits = w;
+  inside = rw (length-cellsOf ws) (p .0);
+  few = rw (length-cellsOf ws) (p .1 .0);
+  ports = p .1 .1 .0;
+  long = p .1 .1 .1 .0;
+  chains = p .1 .1 .1 .1 .0;
+  heads = p .1 .1 .1 .1 .1;
+}
+
+module _ {cs : List Cell} {k : ℕ} {qs : List ℕ} {c : Cell} (g : Joins cs k qs c) where
+  waits-here : So (isWaiting (nth cs k))
+  waits-here = is-waiting cs k (g .read) (g .waits)
+
+  pub small-input : c .input .0 < 16
+  small-input = rw (g .read) (g .ports .inputs k (g .inside) waits-here)
+
+  pub small-output : c .output .0 < 16
+  small-output = rw (g .read) (g .ports .outputs k (g .inside) waits-here)
+
+  module _ (p : ℕ) (at : p ≡ pairOf c) {ms : List ℕ} (link : ms ≡ set (set qs (512 + k) (topWord qs p)) (256 + p) (suc k)) where
+    pub linked-long : length ms ≡ queueWords
+    linked-long = ap length link ∙ length-set (set qs (512 + k) (topWord qs p)) (256 + p) (suc k) ∙ length-set qs (512 + k) (topWord qs p) ∙ g .long
+
+    pub small-pair : p < 256
+    small-pair = omega (arith, at, small-input, small-output)
+
+    apart : (j : ℕ) → (j ≡ 512 + k → ⊥) → (j ≡ 256 + p → ⊥) → getD ms j 0 ≡ getD qs j 0
+    apart j a b = ap (λ (w : List ℕ). getD w j 0) link ∙ getD-set-other (set qs (512 + k) (topWord qs p)) (256 + p) j (suc k) 0 b ∙ getD-set-other qs (512 + k) j (topWord qs p) 0 a
+
+    -- what was the head
+    pub old-head : named (headWord ms (c .input .0) (c .output .0)) ≡ headBelow cs k (c .input .0) (c .output .0)
+    old-head =
+        let i = small-input in
+        let o = small-output in
+        ap named (apart (pairOf c) (omega arith) (omega arith) ∙ g .heads .head (c .input .0) (c .output .0) i o tt) ∙ named-name (headBelow cs k (c .input .0) (c .output .0))
+
+    pub old-below : (n : ℕ) (x : Found) → k ≤ n → x ≡ named (headWord ms (c .input .0) (c .output .0)) → Below n x
+    old-below n x l e = rw (e, old-head) (below-more k n (headBelow cs k (c .input .0) (c .output .0)) l (head-below cs k (c .input .0) (c .output .0)))
+
+    pub new-below : (x y : Found) → x ≡ named (headWord ms (c .input .0) (c .output .0)) → y ≡ firstOf (olderAt cs) x (waitingAt cs k) → Below 1024 y
+    new-below x y e q =
+        let l : k < 1024 = let v = g .inside in omega (arith, g .few) in
+        rw q (firstOf-below (olderAt cs) 1024 x (waitingAt cs k) (old-below 1024 x (omega arith) e) (waiting-below 1024 cs k l))
+
+    pub joined : {ns : List ℕ} (x : Found) → x ≡ named (headWord ms (c .input .0) (c .output .0))
+        → HeadSet ms (c .input .0) (c .output .0) (firstOf (olderAt cs) x (waitingAt cs k)) ns
+        → (length ns ≡ queueWords) × (Chains (classOf cs) (k + 1) ns × Heads All cs (k + 1) ns)
+    joined {ns} x q s = (
+      s .long ∙ linked-long,
+      (
+        chains-kept {qs = ms} (let v = g .inside in omega (arith, g .few)) (s .top) (s .next)
+            (rw link (chains-link (g .chains) (g .long) p small-pair (let v = g .inside in omega (arith, g .few)) (class-waiting cs k waits-here ∙ ap pairOf (sym (g .read)) ∙ sym at))),
+        heads-join (c .input .0) (c .output .0) small-input small-output (g .heads) waits-here (ap (λ (d : Cell). d .input .0) (sym (g .read))) (ap (λ (d : Cell). d .output .0) (sym (g .read)))
+            (λ j m. apart j (omega arith) (omega arith)) (λ b m. apart (1536 + b) (let v = g .inside in omega (arith, g .few)) (let v = small-pair in omega arith)) (rw q at s),
+      ),
+    )
+
+pub head-fits : (cs : List Cell) (i o : ℕ) (x : Found) → length cs ≤ 1024 → x ≡ headOf cs i o → Below 1024 x
+head-fits cs i o x l e = rw e (below-more (length cs) 1024 (headOf cs i o) l (head-below cs (length cs) i o))
+
+-- The whole ---------------------------------------------------------------------------------------
+
+-- the head of one pair is found anew
+pub queues-renew : {cs : List Cell} {qs ns : List ℕ} (i o : ℕ) → i < 16 → o < 16 → length cs ≤ 1024 → Queues (But i o) cs qs → HeadSet qs i o (headOf cs i o) ns → Queues All cs ns
+queues-renew {cs} {qs} {ns} i o small less few q s = record {
+  cl = q .cl;
+  long = s .long ∙ q .long;
+  ports = q .ports;
+  chains = chains-kept few (s .top) (s .next) (q .chains);
+  covers = q .covers;
+  heads = record {
+    head = λ x y l m z. ⊎-elim (λ t. let u = same-pair x y i o m less (eqb-true (pair x y) (pair i o) t) in rw (u .0, u .1) (s .head)) (λ t. let n = eqb-false (pair x y) (pair i o) t in s .heads x y l m n ∙ q .heads .head x y l m n) (passes (eqb (pair x y) (pair i o)));
+    sends = λ x y l m z. ⊎-elim (λ t. let u = same-pair x y i o m less (eqb-true (pair x y) (pair i o) t) in rw (u .0, u .1) (s .sends)) (λ t. let n = eqb-false (pair x y) (pair i o) t in s .others x y l m n ∙ q .heads .sends x y l m n) (passes (eqb (pair x y) (pair i o)));
+  };
+}
+
+-- all records have joined
+pub queues-all : {cs : List Cell} {qs : List ℕ} → length qs ≡ queueWords → Ports cs → Chains (classOf cs) (length cs) qs → Heads All cs (length cs) qs → Queues All cs qs
+queues-all {cs} l f c h = record { cl = classOf cs; long = l; ports = f; chains = c; covers = λ k i w. class-waiting cs k w; heads = h }
