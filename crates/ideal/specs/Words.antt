@@ -56,6 +56,11 @@ cellsOf-wordsOf cs =
     ext-getD free (cellsOf (wordsOf cs)) cs (length-cellsOf (wordsOf cs) ∙ records-wordsOf cs)
     (λ k h. let l : k < length cs = omega (arith, length-cellsOf (wordsOf cs), records-wordsOf cs) in nth-cellsOf (wordsOf cs) k (omega (arith, records-wordsOf cs)) ∙ cellAt-wordsOf cs k l)
 
+-- words as many are records as many
+pub same-records : (ws vs : List ℕ) → length ws ≡ length vs → records ws ≡ records vs
+unfolding records
+same-records ws vs e = ap (λ (n : ℕ). n / width) e
+
 -- whole words are known by their records
 field-at : (ws vs : List ℕ) (k r : ℕ) → r < width → cellAt ws k ≡ cellAt vs k → getD ws (k * width + r) 0 ≡ getD vs (k * width + r) 0
 field-at ws vs k zero l e = rw add-zero (ap (λ (c : Cell). c .place) e)
@@ -136,17 +141,13 @@ module _ (ws : List ℕ) (k : ℕ) (h : k < records ws) (c : Cell) where
   store-there j ne =
       other w4 k (k * width + 4) (c .tag) j ne (omega arith) (omega arith) ∙ other w3 k (k * width + 3) (c .entered .0) j ne (omega arith) (omega arith) ∙ other w2 k (k * width + 2) (c .output .0) j ne (omega arith) (omega arith) ∙ other w1 k (k * width + 1) (c .input .0) j ne (omega arith) (omega arith) ∙ other ws k (k * width) (c .place) j ne (omega arith) (omega arith)
 
-  same-records : records (store ws k c) ≡ records ws
-  unfolding records
-  same-records = ap (λ (n : ℕ). n / width) (length-store ws k c)
-
   pub cellsOf-store : cellsOf (store ws k c) ≡ set (cellsOf ws) k c
   cellsOf-store =
       ext-getD free (cellsOf (store ws k c)) (set (cellsOf ws) k c)
-      (length-cellsOf (store ws k c) ∙ same-records ∙ sym (length-set (cellsOf ws) k c ∙ length-cellsOf ws))
+      (length-cellsOf (store ws k c) ∙ same-records (store ws k c) ws (length-store ws k c) ∙ sym (length-set (cellsOf ws) k c ∙ length-cellsOf ws))
       (λ j l.
-      let m : j < records ws = rw (length-cellsOf (store ws k c), same-records) at l in
-      nth-cellsOf (store ws k c) j (rw same-records m) ∙ go j m (eqb j k) refl)
+      let m : j < records ws = rw (length-cellsOf (store ws k c), same-records (store ws k c) ws (length-store ws k c)) at l in
+      nth-cellsOf (store ws k c) j (rw (same-records (store ws k c) ws (length-store ws k c)) m) ∙ go j m (eqb j k) refl)
     where
       go : (j : ℕ) → j < records ws → (b : Bool) → eqb j k ≡ b → cellAt (store ws k c) j ≡ nth (set (cellsOf ws) k c) j
       go j m true e = let q : j ≡ k = eqb-true j k e in rw q (store-here ∙ sym (getD-set-same (cellsOf ws) k c free (rw (length-cellsOf ws) h)))

@@ -1,3 +1,4 @@
 pub mod Picking
+pub mod Rounds
 pub mod Transfer
 pub mod Transfers

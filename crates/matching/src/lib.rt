@@ -1,16 +1,20 @@
 // A transfer phase: which cell stands before which, rounds of picking, and the match words; and S phases by one reading.
 use laws::Found;
 use rules::Cell;
+use rules::Output;
 use table::Reading;
 ghost use mathlib.Core.Path.{_≡_};
 ghost use Prim.Native.Nat.{_+_, _*_, _<_, _≤_};
 ghost use lib.ListN.{length};
 ghost use Rattle.ports.specs.Ports.{has};
-ghost use Rattle.laws.specs.Least.{Below, sooner};
-ghost use Rattle.rules.specs.Cells.{nth, records, cellsOf, before};
+ghost use Rattle.laws.specs.Least.{Below};
+ghost use Rattle.laws.specs.First.{firstOf};
+ghost use Rattle.queues.specs.Queues.{All, Queues};
+ghost use Rattle.rules.specs.Cells.{nth, records, cellsOf, outputOf, readingFor, before};
 ghost use Rattle.rules.specs.Phases.{matchOf, phases};
 ghost use Rattle.rules.specs.Phases.{matches as matchesOf};
-ghost use Rattle.matching.specs.Picking.{candidate, firstCandidate, InPorts, Takes, Shows};
+ghost use Rattle.matching.specs.Picking.{firstCandidate, InPorts, Takes, Shows};
+ghost use Rattle.matching.specs.Rounds.{beforeAt, firstFor, isServable, Lowered, Lows};
 ghost use Rattle.matching.specs.Transfer.{Writable, Written, Transferred};
 
 // The taken inputs and the taken outputs are two sets of ports.
@@ -40,64 +44,135 @@ pub fn stands_before(r: Reading, c: Cell, d: Cell) -> bool
     table::is_older(c, d)
 }
 
-// A waiting cell that conflicts with none of those picked.
-pub fn is_candidate(c: Cell, taken: Taken) -> bool
-    ensures { λ r. ⌜ r ≡ candidate (has (taken .inputs)) (has (taken .outputs)) c ⌝ }
+// Of two findings the one whose cell stands before the other's; the lower-numbered where neither does.
+fn first_of(table: &[u32], r: Reading, a: Found, b: Found) -> Found
+    requires { ⌜ Below (records (now table)) a ⌝ }
+    requires { ⌜ Below (records (now table)) b ⌝ }
+    ensures { λ q. ⌜ q ≡ firstOf (beforeAt (r .counts) (cellsOf (now (table .entry)))) a b ⌝ }
 {
-    if c.place != 1 {
-        return false;
-    }
-    if ports::holds(taken.inputs, c.input.0) {
-        return false;
-    }
-    !ports::holds(taken.outputs, c.output.0)
-}
-
-// One turn of `first_candidate`.
-fn sooner_of(table: &[u32], r: Reading, taken: Taken, found: Found, k: usize) -> Found
-    requires { ⌜ k < records (now table) ⌝ }
-    requires { ⌜ Below k found ⌝ }
-    ensures { λ q. ⌜ q ≡ sooner (λ i j. before (r .counts) (nth (cellsOf (now (table .entry))) i) (nth (cellsOf (now (table .entry))) j)) found (candidate (has (taken .inputs)) (has (taken .outputs)) (nth (cellsOf (now (table .entry))) k)) k ⌝ }
-{
-    let c = table::cell_at(table, k);
-    if !is_candidate(c, taken) {
-        return found;
-    }
-    let Found::At(j) = found else {
-        return Found::At(k);
+    let Found::At(j) = a else {
+        return b;
     };
-    let d = table::cell_at(table, j);
-    if stands_before(r, c, d) {
-        Found::At(k)
-    } else {
-        Found::At(j)
+    let Found::At(k) = b else {
+        return Found::At(j);
+    };
+    let c = table::cell_at(table, j);
+    let d = table::cell_at(table, k);
+    if stands_before(r, d, c) {
+        return Found::At(k);
     }
+    if stands_before(r, c, d) {
+        return Found::At(j);
+    }
+    if k < j { Found::At(k) } else { Found::At(j) }
 }
 
-// Of the waiting cells that conflict with none picked, the one that stands before the others.
-pub fn first_candidate(table: &[u32], r: Reading, taken: Taken) -> Found
-    ensures { λ q. ⌜ q ≡ firstCandidate (r .counts) (has (taken .inputs)) (has (taken .outputs)) (cellsOf (now (table .entry))) ⌝ }
+// Of the waiting cells for an output, at inputs that are not taken, the one that stands before the others: a look at the heads.
+fn first_for(table: &[u32], queues: &[u16], r: Reading, inputs: u16, o: u32) -> Found
+    requires { ⌜ o < 16 ⌝ }
+    requires { ⌜ Queues All (cellsOf (now table)) (now queues) ⌝ }
+    ensures { λ q. ⌜ q ≡ firstFor (r .counts) (has inputs) o (cellsOf (now (table .entry))) ⌝ }
 {
-    let n = table::record_count(table);
     let mut found = Found::Nothing;
-    let mut k = 0;
-    while k < n {
-        found = sooner_of(table, r, taken, found, k);
-        k += 1;
+    let mut left = ports::except(queues::senders_for(queues, o), inputs);
+    while left != 0 {
+        let i = ports::lowest(left);
+        left = ports::without(left, i);
+        found = first_of(table, r, found, queues::head_of(queues, i, o));
     }
     found
 }
 
-// The cell of record k becomes ready and takes its ports.
-fn take(table: &mut [u32], k: usize, picked: Picked) -> Picked
+// Whether there is such a cell.
+fn is_servable(table: &[u32], queues: &[u16], inputs: u16, o: u32) -> bool
+    requires { ⌜ o < 16 ⌝ }
+    requires { ⌜ Queues All (cellsOf (now table)) (now queues) ⌝ }
+    ensures { λ q. ⌜ q ≡ isServable (has inputs) o (cellsOf (now (table .entry))) ⌝ }
+{
+    ports::except(queues::senders_for(queues, o), inputs) != 0
+}
+
+// A set of outputs with the same reading.
+struct Lowest {
+    outputs: u16,
+    reading: u32,
+}
+
+// The outputs with the lowest reading, once output o is among those looked at.
+fn lower_of(r: Reading, lowest: Lowest, o: u32) -> Lowest
+    requires { ⌜ o < 16 ⌝ }
+    ensures { λ q. ⌜ Lowered (readingFor (r .counts) (outputOf o)) o (lowest .outputs) (lowest .reading) (q .outputs) (q .reading) ⌝ }
+{
+    let x = table::reading_for(r, Output(o));
+    let fresh = Lowest {
+        outputs: ports::with(0, o),
+        reading: x,
+    };
+    if lowest.outputs == 0 {
+        return fresh;
+    }
+    if x < lowest.reading {
+        return fresh;
+    }
+    if lowest.reading < x {
+        return lowest;
+    }
+    Lowest {
+        outputs: ports::with(lowest.outputs, o),
+        reading: lowest.reading,
+    }
+}
+
+// Of the outputs that are not taken and can be served, those with the lowest reading.
+fn lowest_readings(table: &[u32], queues: &[u16], r: Reading, taken: Taken) -> u16
+    requires { ⌜ Queues All (cellsOf (now table)) (now queues) ⌝ }
+    ensures { λ q. ⌜ Lows (r .counts) (has (taken .inputs)) (has (taken .outputs)) (cellsOf (now (table .entry))) q ⌝ }
+{
+    let mut lowest = Lowest {
+        outputs: 0,
+        reading: 0,
+    };
+    let mut left = ports::except(65535, taken.outputs);
+    while left != 0 {
+        let o = ports::lowest(left);
+        left = ports::without(left, o);
+        if is_servable(table, queues, taken.inputs, o) {
+            lowest = lower_of(r, lowest, o);
+        }
+    }
+    lowest.outputs
+}
+
+// Of the waiting cells that conflict with none picked, the one that stands before the others.
+pub fn first_candidate(table: &[u32], queues: &[u16], r: Reading, taken: Taken) -> Found
+    requires { ⌜ Queues All (cellsOf (now table)) (now queues) ⌝ }
+    ensures { λ q. ⌜ q ≡ firstCandidate (r .counts) (has (taken .inputs)) (has (taken .outputs)) (cellsOf (now (table .entry))) ⌝ }
+{
+    let inputs = taken.inputs;
+    let mut found = Found::Nothing;
+    let mut left = lowest_readings(table, queues, r, taken);
+    while left != 0 {
+        let o = ports::lowest(left);
+        left = ports::without(left, o);
+        found = first_of(table, r, found, first_for(table, queues, r, inputs, o));
+    }
+    found
+}
+
+// The cell of record k becomes ready and takes its ports; the head of its pair is found anew.
+fn take(table: &mut [u32], queues: &mut [u16], k: usize, picked: Picked) -> Picked
     requires { ⌜ k < records (now table) ⌝ }
+    requires { ⌜ records (now table) ≤ 1024 ⌝ }
+    requires { ⌜ Queues All (cellsOf (now table)) (now queues) ⌝ }
     requires { ⌜ nth (cellsOf (now table)) k .input .0 < 16 ⌝ }
     requires { ⌜ nth (cellsOf (now table)) k .output .0 < 16 ⌝ }
     ensures { λ q. ⌜ length (now (table .exit)) ≡ length (now (table .entry)) ⌝ }
+    ensures { λ q. ⌜ Queues All (cellsOf (now (table .exit))) (now (queues .exit)) ⌝ }
     ensures { λ q. ⌜ Takes (cellsOf (now (table .entry))) picked k (cellsOf (now (table .exit))) q ⌝ }
 {
     let c = table::cell_at(table, k);
     table::set_place(table, k, 2);
+    queues::renew(table, queues, c.input.0, c.output.0);
     let o = c.output.0 as usize;
     let mut served = picked.served;
     served[o] = c.input.0;
@@ -112,10 +187,13 @@ fn take(table: &mut [u32], k: usize, picked: Picked) -> Picked
 }
 
 // Rounds of picking: the first candidate is taken, again and again, until there is none.
-fn pick(table: &mut [u32], r: Reading, ports: u32) -> Picked
+fn pick(table: &mut [u32], queues: &mut [u16], r: Reading, ports: u32) -> Picked
     requires { ⌜ ports ≤ 16 ⌝ }
+    requires { ⌜ records (now table) ≤ 1024 ⌝ }
     requires { ⌜ InPorts ports (cellsOf (now table)) ⌝ }
+    requires { ⌜ Queues All (cellsOf (now table)) (now queues) ⌝ }
     ensures { λ q. ⌜ length (now (table .exit)) ≡ length (now (table .entry)) ⌝ }
+    ensures { λ q. ⌜ Queues All (cellsOf (now (table .exit))) (now (queues .exit)) ⌝ }
     ensures { λ q. ⌜ Shows (cellsOf (now (table .entry))) (matchOf ports (r .counts) (cellsOf (now (table .entry)))) (cellsOf (now (table .exit))) q ⌝ }
 {
     let none = Taken {
@@ -129,10 +207,10 @@ fn pick(table: &mut [u32], r: Reading, ports: u32) -> Picked
     let mut round = 0;
     'rounds: while round < ports {
         let taken = picked.taken;
-        let Found::At(k) = first_candidate(table, r, taken) else {
+        let Found::At(k) = first_candidate(table, queues, r, taken) else {
             break 'rounds;
         };
-        picked = take(table, k, picked);
+        picked = take(table, queues, k, picked);
         round += 1;
     }
     picked
@@ -156,22 +234,34 @@ fn write_words(words: &mut [u32], picked: Picked)
 }
 
 // One transfer phase, with its match words; answers how many cells moved.
-pub fn transfer(table: &mut [u32], words: &mut [u32], r: Reading, ports: u32) -> u32
+fn transfer(table: &mut [u32], queues: &mut [u16], words: &mut [u32], r: Reading, ports: u32) -> u32
     requires { ⌜ ports ≤ 16 ⌝ }
     requires { ⌜ length (now words) ≡ ports ⌝ }
+    requires { ⌜ records (now table) ≤ 1024 ⌝ }
     requires { ⌜ InPorts ports (cellsOf (now table)) ⌝ }
+    requires { ⌜ Queues All (cellsOf (now table)) (now queues) ⌝ }
+    ensures { λ q. ⌜ Queues All (cellsOf (now (table .exit))) (now (queues .exit)) ⌝ }
     ensures { λ q. ⌜ Transferred ports (r .counts) (now (table .entry)) (now (table .exit)) (now (words .exit)) q ⌝ }
 {
-    let picked = pick(table, r, ports);
+    let picked = pick(table, queues, r, ports);
     write_words(words, picked);
     ports::size(picked.taken.outputs)
 }
 
 // S transfer phases by one reading, with all match words. Where a phase moves nothing, those after it move nothing either.
-pub fn transfers(table: &mut [u32], matches: &mut [u32], r: Reading, ports: u32, speedup: u32)
+fn run_phases(
+    table: &mut [u32],
+    queues: &mut [u16],
+    matches: &mut [u32],
+    r: Reading,
+    ports: u32,
+    speedup: u32,
+)
     requires { ⌜ ports ≤ 16 ⌝ }
     requires { ⌜ length (now matches) ≡ speedup * ports ⌝ }
     requires { ⌜ InPorts ports (cellsOf (now table)) ⌝ }
+    requires { ⌜ records (now table) ≤ 1024 ⌝ }
+    requires { ⌜ Queues All (cellsOf (now table)) (now queues) ⌝ }
     ensures { λ _. ⌜ length (now (table .exit)) ≡ length (now (table .entry)) ⌝ }
     ensures { λ _. ⌜ cellsOf (now (table .exit)) ≡ phases ports (r .counts) (cellsOf (now (table .entry))) speedup ⌝ }
     ensures { λ _. ⌜ now (matches .exit) ≡ matchesOf ports (r .counts) (cellsOf (now (table .entry))) speedup ⌝ }
@@ -181,7 +271,7 @@ pub fn transfers(table: &mut [u32], matches: &mut [u32], r: Reading, ports: u32,
     let mut at = 0;
     while j < speedup {
         let end = at + n;
-        let moved = transfer(table, &mut matches[at..end], r, ports);
+        let moved = transfer(table, queues, &mut matches[at..end], r, ports);
         if moved == 0 {
             table::clear(&mut matches[end..]);
             return;
@@ -189,4 +279,19 @@ pub fn transfers(table: &mut [u32], matches: &mut [u32], r: Reading, ports: u32,
         at = end;
         j += 1;
     }
+}
+
+// The transfer phases of a slot. The waiting cells are lined up once, for all of them.
+pub fn transfers(table: &mut [u32], matches: &mut [u32], r: Reading, ports: u32, speedup: u32)
+    requires { ⌜ ports ≤ 16 ⌝ }
+    requires { ⌜ length (now matches) ≡ speedup * ports ⌝ }
+    requires { ⌜ InPorts ports (cellsOf (now table)) ⌝ }
+    requires { ⌜ records (now table) ≤ 1024 ⌝ }
+    ensures { λ _. ⌜ length (now (table .exit)) ≡ length (now (table .entry)) ⌝ }
+    ensures { λ _. ⌜ cellsOf (now (table .exit)) ≡ phases ports (r .counts) (cellsOf (now (table .entry))) speedup ⌝ }
+    ensures { λ _. ⌜ now (matches .exit) ≡ matchesOf ports (r .counts) (cellsOf (now (table .entry))) speedup ⌝ }
+{
+    let mut queues = [0u16; 1552];
+    queues::line_up(table, &mut queues);
+    run_phases(table, &mut queues, matches, r, ports, speedup);
 }

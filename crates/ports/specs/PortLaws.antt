@@ -2,7 +2,7 @@
 -- Assumes nothing.
 use mathlib.Core.Path.{_≡_, refl, sym, ap, _∙_, subst}
 use mathlib.Core.Bool.{Bool, So, true, false, not, _&&_}
-use mathlib.Core.Logic.{_⊎_, inl, inr}
+use mathlib.Core.Logic.{_⊎_, inl, inr, ⊎-elim}
 use Prim.Native.Nat.{ℕ, zero, suc, _+_, _-_, _*_, _/_, _%_, _^_, _≤_, _<_, min, max, suc-le-suc}
 use native.Mathlib.Nat.{div-one, mod-lt, zero-lt-suc, pow-suc, mul-div-cancel, mul-mod-left, max-zero, max-eq-right, max-le, min-le-left, le-of-suc-le-suc, not-suc-le-zero, mod-eq-of-lt, one-mul}
 use native.Mathlib.Numerals.{one-add}
@@ -13,8 +13,8 @@ use lib.Arith.{digits-mod, lt-one}
 use lib.Pow.{shr-shr, pow-lt, pow-pos}
 use lib.Bits.{bitOr, or-step, or-shr, or-zero-r, bitAnd, and-mask, and-step, and-shr, bitXor, differ, xor-step, xor-shr}
 use lib.Count.{ones, ones-step, trailingZeros, under}
-use Rattle.laws.specs.Tests.{No, refuted}
-use Rattle.laws.specs.Count.{bit, count, count-zero, count-suc, count-either, count-more, count-one}
+use Rattle.laws.specs.Tests.{No, passes, refuted, to-no}
+use Rattle.laws.specs.Count.{any, any→, →any, bit, count, count-zero, count-suc, count-either, count-more, count-one}
 use Rattle.ports.specs.Ports.{digit, has, Added, Removed, Except, Lowest}
 
 two-pos : zero < 2
@@ -281,3 +281,22 @@ set-known k a b ha hb h = digits-known k a b ha hb (λ q l. sym (bit-has a q) �
 
 pub none-inside : (m : ℕ) → m < 2 ^ 16 → ((q : ℕ) → q < 16 → No (has m q)) → m ≡ 0
 none-inside m h f = set-known 16 m 0 h (zero-lt-suc 65535) (λ q l. f q l ∙ sym (has-none q))
+
+-- a set that is not empty has a member
+pub some-inside : (m : ℕ) → m < 2 ^ 16 → (m ≡ 0 → ⊥) → (q : ℕ) × So (has m q)
+some-inside m h ne = ⊎-elim (λ x. let q = any→ (has m) 16 x in (q .0, q .2)) (λ x. absurd (ne (none-inside m h (λ q l. to-no (λ y. refuted (→any (has m) 16 q l y) x))))) (passes (any (has m) 16))
+
+-- what was in, stays in, or was taken out
+module _ {m p r : ℕ} (d : Removed m p r) where
+  pub removed-part : (q : ℕ) → So (has r q) → So (has m q)
+  removed-part q h = ⊎-elim (λ x. absurd (refuted (ap (has r) (sym (eqb-true q p x)) ∙ h) (d .outside))) (λ x. sym (d .others q (eqb-false q p x)) ∙ h) (passes (eqb q p))
+
+  pub removed-out : (q : ℕ) → No (has m q) → No (has r q)
+  removed-out q n = to-no (λ h. refuted (removed-part q h) n)
+
+  pub removed-split : (q : ℕ) → No (has r q) → (q ≡ p) ⊎ No (has m q)
+  removed-split q n = ⊎-elim (λ x. inl (eqb-true q p x)) (λ x. inr (sym (d .others q (eqb-false q p x)) ∙ n)) (passes (eqb q p))
+
+-- of a set with one added, a member is that one or was in
+pub added-split : {m p r : ℕ} → Added m p r → (q : ℕ) → So (has r q) → (q ≡ p) ⊎ So (has m q)
+added-split {m} {p} {r} d q h = ⊎-elim (λ x. inl (eqb-true q p x)) (λ x. inr (sym (d .others q (eqb-false q p x)) ∙ h)) (passes (eqb q p))

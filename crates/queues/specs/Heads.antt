@@ -3,7 +3,7 @@
 use Prim.Native.Nat.{ℕ, zero, suc, _+_, _*_, _<_, _≤_}
 use mathlib.Core.Path.{_≡_, refl, sym, ap, _∙_, subst}
 use mathlib.Core.Logic.{_⊎_, inl, inr, ⊎-elim}
-use mathlib.Core.Bool.{Bool, So, true, false, not, cond, _&&_}
+use mathlib.Core.Bool.{Bool, So, true, false, not, cond, _&&_, and-true}
 use mathlib.Core.List.{List}
 use native.Mathlib.Omega.{arith}
 use native.Mathlib.Numerals.{add-one}
@@ -11,24 +11,21 @@ use borrow.Author.Tests.{eqb-true, eqb-false, eq-eqb, ne-eqb}
 use lib.Dec.{eqb}
 use lib.ListN.{length, getD, set, length-set, replicate, getD-replicate, length-replicate}
 use lib.Seq.{getD-set-same, getD-set-other}
-use Rattle.laws.specs.Tests.{No, passes, refuted, to-no, both, join, fails-left, fails-right, cond-true, cond-false}
-use Rattle.laws.specs.Least.{least, least-zero, least-more, least-below, Below, sooner, sooner-skip}
+use Rattle.laws.specs.Tests.{No, passes, refuted, to-no, fails-right, same-test, cond-true, cond-false}
+use Rattle.laws.specs.Least.{least, least-zero, least-more, least-below, least-same, Below, sooner, sooner-skip}
 use Rattle.laws.specs.First.{firstOf, firstOf-sooner, firstOf-below}
 use Rattle.laws.specs.declared.Found.{Found}
 use Rattle.laws.specs.declared.Found.the-variants.{At, Nothing}
 use Rattle.ports.specs.Ports.{has, Added, Except}
 use Rattle.ports.specs.PortLaws.{has-none}
 use Rattle.rules.specs.declared.Cell.{Cell}
-use Rattle.rules.specs.Cells.{nth, isWaiting, records, cellsOf}
+use Rattle.rules.specs.Cells.{free, nth, placed, isWaiting, records, cellsOf}
+use Rattle.ideal.specs.Cells.{Same, older-same}
 use Rattle.ideal.specs.Words.{length-cellsOf}
 use Rattle.queues.specs.Queues.{pair, pairOf, named, nameOf, named-name, isFound, queueWords, headWord, topWord, nextWord, senders, olderAt, waitsFor, waits→, →waits, headBelow, headOf, Chains, Heads, All, But, Ports, Queues, waitingAt, classOf, HeadSet}
 use Rattle.queues.specs.Chains.{chains-kept, chains-link, class-waiting}
 
 -- A new head ----------------------------------------------------------------------------------
-
-and-true : (b : Bool) → b && true ≡ b
-and-true true = refl
-and-true false = refl
 
 -- one input taken out of a set
 pub taken-out : {s i w m : ℕ} → Added 0 i w → Except s w m → No (has m i) × ((a : ℕ) → (a ≡ i → ⊥) → has m a ≡ has s a)
@@ -270,3 +267,64 @@ queues-renew {cs} {qs} {ns} i o small less few q s = record {
 -- all records have joined
 pub queues-all : {cs : List Cell} {qs : List ℕ} → length qs ≡ queueWords → Ports cs → Chains (classOf cs) (length cs) qs → Heads All cs (length cs) qs → Queues All cs qs
 queues-all {cs} l f c h = record { cl = classOf cs; long = l; ports = f; chains = c; covers = λ k i w. class-waiting cs k w; heads = h }
+
+-- the head of a pair becomes ready: its pair's head is to be found anew, the others stand
+module _ {cs : List Cell} {qs : List ℕ} (q : Queues All cs qs) (k : ℕ) (l : k < length cs) where
+  next : List Cell
+  next = set cs k (placed 2 (nth cs k))
+
+  next-long : length next ≡ length cs
+  unfolding next
+  next-long = length-set cs k (placed 2 (nth cs k))
+
+  at-k : nth next k ≡ placed 2 (nth cs k)
+  unfolding next
+  at-k = getD-set-same cs k (placed 2 (nth cs k)) free l
+
+  at-other : (j : ℕ) → (j ≡ k → ⊥) → nth next j ≡ nth cs j
+  unfolding next
+  at-other j n = getD-set-other cs k j (placed 2 (nth cs k)) free n
+
+  -- a cell that still waits is another one
+  still : (j : ℕ) → So (isWaiting (nth next j)) → nth next j ≡ nth cs j
+  unfolding isWaiting
+  still j h = ⊎-elim (λ x. let e : j ≡ k = eqb-true j k x in absurd (refuted h (ap (λ (i : ℕ). eqb (nth next i .place) 1) e ∙ ap (λ (c : Cell). eqb (c .place) 1) at-k))) (λ x. at-other j (eqb-false j k x)) (passes (eqb j k))
+
+  alike : (i o j : ℕ) → But (nth cs k .input .0) (nth cs k .output .0) i o → waitsFor i o (nth next j) ≡ waitsFor i o (nth cs j)
+  alike i o j ne =
+      same-test _ _
+      (λ h. subst (λ (c : Cell). So (waitsFor i o c)) (still j (waits→ i o (nth next j) h .0)) h)
+      (λ h. ⊎-elim
+      (λ x. let w = waits→ i o (nth cs j) h in let e : j ≡ k = eqb-true j k x in absurd (ne (omega (arith, w .1, w .2, ap (λ (c : ℕ). nth cs c .input .0) e, ap (λ (c : ℕ). nth cs c .output .0) e))))
+      (λ x. subst (λ (c : Cell). So (waitsFor i o c)) (sym (at-other j (eqb-false j k x))) h)
+      (passes (eqb j k)))
+
+  same-cell : (j : ℕ) → Same (nth next j) (nth cs j)
+  same-cell j =
+      ⊎-elim
+      (λ x. let e : j ≡ k = eqb-true j k x in rw (e, at-k) (record { input = refl; output = refl; entered = refl; tag = refl }))
+      (λ x. rw (at-other j (eqb-false j k x)) (record { input = refl; output = refl; entered = refl; tag = refl }))
+      (passes (eqb j k))
+
+  head-stays : (i o : ℕ) → But (nth cs k .input .0) (nth cs k .output .0) i o → headOf next i o ≡ headOf cs i o
+  unfolding headBelow
+  head-stays i o ne =
+      ap (λ (n : ℕ). headBelow next n i o) next-long
+      ∙ least-same _ _ _ _ (length cs) (λ j m. alike i o j ne) (λ a b m n. older-same (nth next a) (nth cs a) (nth next b) (nth cs b) (same-cell a) (same-cell b))
+
+  pub queues-take : Queues (But (nth cs k .input .0) (nth cs k .output .0)) (set cs k (placed 2 (nth cs k))) qs
+  unfolding next
+  queues-take = record {
+    cl = q .cl;
+    long = q .long;
+    ports = record {
+      inputs = λ j m w. rw (still j w) (q .ports .inputs j (rw next-long at m) (rw (still j w) at w));
+      outputs = λ j m w. rw (still j w) (q .ports .outputs j (rw next-long at m) (rw (still j w) at w));
+    };
+    chains = rw next-long (q .chains);
+    covers = λ j m w. rw (still j w) (q .covers j (rw next-long at m) (rw (still j w) at w));
+    heads = record {
+      head = λ i o a b ne. q .heads .head i o a b tt ∙ ap nameOf (sym (head-stays i o ne));
+      sends = λ i o a b ne. q .heads .sends i o a b tt ∙ ap isFound (sym (head-stays i o ne));
+    };
+  }

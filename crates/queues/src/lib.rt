@@ -11,7 +11,7 @@ ghost use lib.ListN.{length, set, replicate};
 ghost use Rattle.laws.specs.Least.{Below};
 ghost use Rattle.laws.specs.First.{firstOf};
 ghost use Rattle.rules.specs.Cells.{records, cellsOf};
-ghost use Rattle.queues.specs.Queues.{pair, named, nameOf, queueWords, headWord, topWord, olderAt, headOf, Chains, Heads, All, But, Queues, HeadSet, classOf, Ports, waitingAt};
+ghost use Rattle.queues.specs.Queues.{pair, named, nameOf, queueWords, headWord, topWord, senders, olderAt, headOf, Chains, Heads, All, But, Queues, HeadSet, classOf, Ports, waitingAt};
 
 // Where the words of a pair stand.
 fn pair_of(i: u32, o: u32) -> usize
@@ -34,6 +34,15 @@ pub fn head_of(queues: &[u16], i: u32, o: u32) -> Found
         return Found::Nothing;
     }
     Found::At((word - 1) as usize)
+}
+
+// The inputs that have a cell for an output.
+pub fn senders_for(queues: &[u16], o: u32) -> u16
+    requires { ⌜ length (now queues) ≡ queueWords ⌝ }
+    requires { ⌜ o < 16 ⌝ }
+    ensures { λ r. ⌜ r ≡ senders (now (queues .entry)) o ⌝ }
+{
+    queues[1536 + (o as usize)]
 }
 
 // Another head, or none, for a pair.

@@ -16,7 +16,7 @@ use Rattle.laws.specs.declared.Found.the-variants.{At, Nothing}
 use Rattle.rules.specs.declared.Cell.{Cell}
 use Rattle.rules.specs.Cells.{nth, placed, isFree, isLive, width, records, cellAt, cellsOf}
 use Rattle.rules.specs.Phases.{lowestFree}
-use Rattle.ideal.specs.Words.{length-cellsOf, nth-cellsOf, store, length-store, cellsOf-store}
+use Rattle.ideal.specs.Words.{length-cellsOf, nth-cellsOf, same-records, store, length-store, cellsOf-store}
 
 -- the words vs are ws with c as record k
 pub record Stored (ws : List ℕ) (k : ℕ) (c : Cell) (vs : List ℕ) : Type 0 where
@@ -28,8 +28,7 @@ stored ws k c l = record { long = length-store ws k c; cells = cellsOf-store ws 
 
 -- the records stay as many as they were
 pub stored-records : {ws vs : List ℕ} {k : ℕ} {c : Cell} → Stored ws k c vs → records vs ≡ records ws
-unfolding records
-stored-records s = omega (arith, s .long)
+stored-records {ws} {vs} s = same-records vs ws (s .long)
 
 -- to store what stands there changes nothing
 kept : (l : List ℕ) (i v : ℕ) → getD l i 0 ≡ v → set l i v ≡ l

@@ -1,46 +1,55 @@
--- What was found is the least of the records below k.
-use Prim.Native.Nat.{_≤_, _-_}
-use mathlib.Core.Path.{_≡_, sym}
+-- What was found is the first of the candidates for the outputs that are not left; an output taken out leaves one fewer.
+use Prim.Native.Nat.{ℕ}
+use mathlib.Core.Path.{_≡_}
+use mathlib.Core.Bool.{Bool}
 use native.Mathlib.Omega.{arith}
-use lib.ListN.{length}
 use denote.Ref.{now}
-use Rattle.laws.specs.Least.{least, least-zero, least-more, least-below}
+use Rattle.laws.specs.Count.{count}
 use Rattle.ports.specs.Ports.{has}
-use Rattle.rules.specs.Cells.{nth, cellsOf, before}
-use Rattle.matching.specs.Picking.{candidate, firstCandidate}
+use Rattle.ports.specs.PortLaws.{removed-count}
+use Rattle.rules.specs.Cells.{cellsOf}
 use Rattle.ideal.specs.Words.{length-cellsOf}
+use Rattle.matching.specs.Rounds.{first-for-below, Lows, Round, round-none, round-below, round-more, round-all}
 use Rattle.matching.proofs.first_candidate.Statement.{statement}
 use Rattle.matching.proofs.first_candidate.Tie as tie
 
 abbrev Inv-loop : tie.InvT-loop
-Inv-loop table r taken n found₀ k₀ found k = (k ≤ n) × (found ≡ least (λ i. candidate (has (taken .inputs)) (has (taken .outputs)) (nth (cellsOf table) i)) (λ i j. before (r .counts) (nth (cellsOf table) i) (nth (cellsOf table) j)) k)
+Inv-loop table queues r inputs found₀ left₀ found left = (outs : ℕ → Bool) → Lows (r .counts) (has inputs) outs (cellsOf table) left₀ → Round (r .counts) (has inputs) outs (cellsOf table) left₀ left found
 
 abbrev μ-loop : tie.MeasureT-loop
-μ-loop table r taken n found₀ k₀ found k = n - k
+μ-loop table queues r inputs found₀ left₀ found left = count (has left) 16
 
-record-count-requires : tie.Need-record-count-requires Inv-loop μ-loop
-record-count-requires c κs = tt
+lowest-readings-requires : tie.Need-lowest-readings-requires Inv-loop μ-loop
+lowest-readings-requires c κs = c .before .before .pre
 
 loop-holds : tie.Need-loop-holds Inv-loop μ-loop
-loop-holds c = (omega arith, sym (least-zero _ _))
+loop-holds c = λ outs w. round-none
 
-sooner-of-requires : tie.Need-sooner-of-requires Inv-loop μ-loop
-sooner-of-requires c κs = (omega arith, rw (c .before .loop .inv .1) (least-below _ _ _))
+lowest-requires : tie.Need-lowest-requires Inv-loop μ-loop
+lowest-requires c κs = omega arith
 
-add-k : tie.Need-add-k Inv-loop μ-loop
-add-k c = omega arith
+without-requires : tie.Need-without-requires Inv-loop μ-loop
+without-requires c κs = (c .lowest .ensures .small, c .lowest .ensures .inside)
+
+first-for-requires : tie.Need-first-for-requires Inv-loop μ-loop
+first-for-requires c κs = (c .before .lowest .ensures .small, c .before .before .before .before .before .before .before .pre)
+
+first-of-requires : tie.Need-first-of-requires Inv-loop μ-loop
+first-of-requires c κs =
+    let e = length-cellsOf (now (c .before .before .before .before .before .before .before .before .args .table)) in
+    (rw e at (round-below (c .before .before .before .before .loop .inv _ (c .before .before .before .before .before .lowest-readings .ensures))), rw (c .first-for .ensures, ← e) (first-for-below _ _ _ (cellsOf (now (c .before .before .before .before .before .before .before .before .args .table)))))
 
 loop-less : tie.Need-loop-less Inv-loop μ-loop
-loop-less c = omega arith
+loop-less c = omega (arith, removed-count _ _ _ 16 (c .before .before .before .lowest .ensures .small) (c .before .before .before .lowest .ensures .inside) (c .before .before .without .ensures))
 
 loop-again : tie.Need-loop-again Inv-loop μ-loop
-loop-again c = (omega arith, rw least-more (rw (← c .before .before .loop .inv .1) (c .sooner-of .ensures)))
+loop-again c = λ outs w. rw (c .first-of .ensures, c .before .first-for .ensures) (round-more w _ (c .before .before .before .before .before .loop .inv outs w) (c .before .before .before .lowest .ensures .inside) (c .before .before .without .ensures))
 
 returns : tie.Need-returns Inv-loop μ-loop
-unfolding firstCandidate
 returns c =
-    let e : c .before .loop .k ≡ length (cellsOf (now (c .before .before .before .before .args .table))) = omega (arith, length-cellsOf (now (c .before .before .before .before .args .table))) in
-    rw e at (c .before .loop .inv .1)
+    let e : c .before .loop .left ≡ 0 = omega arith in
+    let w = c .before .before .lowest-readings .ensures in
+    round-all w (c .before .before .before .before .before .pre .ports) (rw e at (c .before .loop .inv _ (c .before .before .lowest-readings .ensures)))
 
 pub first-candidate-spec : {M : Type 1} → statement M
 first-candidate-spec =
@@ -48,10 +57,12 @@ first-candidate-spec =
     (tie.spec
     Inv-loop
     μ-loop
-    record-count-requires
+    lowest-readings-requires
     loop-holds
-    sooner-of-requires
-    add-k
+    lowest-requires
+    without-requires
+    first-for-requires
+    first-of-requires
     loop-less
     loop-again
     returns)

@@ -11,9 +11,9 @@ pick-requires c κs = search needs
 
 write-words-requires : tie.Need-write-words-requires
 write-words-requires c κs =
-    let a = c .before .before .before .before .before .before .before .args in
-    let p = c .before .before .before .before .before .before .before .pre in
-    rw (p .1 .0) (shows-writable (p .0) (p .1 .1) (a .r .counts) (c .before .before .before .pick .ensures .1))
+    let a = c .before .before .before .before .before .before .before .before .before .before .before .args in
+    let p = c .before .before .before .before .before .before .before .before .before .before .before .pre in
+    rw (p .1 .0) (shows-writable (p .0) (p .1 .1 .1 .0) (a .r .counts) (c .before .before .before .before .before .pick .ensures .1 .1))
 
 size-requires : tie.Need-size-requires
 size-requires c κs = search needs
@@ -24,21 +24,33 @@ same-length c = search needs
 same-length-2 : tie.Need-same-length-2
 same-length-2 c = search needs
 
+same-length-3 : tie.Need-same-length-3
+same-length-3 c = search needs
+
 returns : tie.Need-returns
 unfolding phase
 returns c =
-    let a = c .before .before .before .before .before .before .before .before .before .before .before .args in
-    let p = c .before .before .before .before .before .before .before .before .before .before .before .pre in
-    let h = c .before .before .before .before .before .before .before .pick .ensures in
-    let w = c .before .before .before .write-words .ensures in
-    record {
-      long = h .0;
-      cells = h .1 .cells;
-      words = shows-words (p .0) (p .1 .1) (a .r .counts) (h .1) _ (w .0 ∙ p .1 .0) (w .1);
-      moved = c .size .ensures ∙ shows-moves (p .0) (p .1 .1) (a .r .counts) (h .1);
-    }
+    let a = c .before .before .before .before .before .before .before .before .before .before .before .before .before .before .before .args in
+    let p = c .before .before .before .before .before .before .before .before .before .before .before .before .before .before .before .pre in
+    let h = c .before .before .before .before .before .before .before .before .before .pick .ensures in
+    let w = c .before .before .before .write-words .ensures in (
+      h .1 .0,
+      record {
+        long = h .0;
+        cells = h .1 .1 .cells;
+        words = shows-words (p .0) (p .1 .1 .1 .0) (a .r .counts) (h .1 .1) _ (w .0 ∙ p .1 .0) (w .1);
+        moved = c .size .ensures ∙ shows-moves (p .0) (p .1 .1 .1 .0) (a .r .counts) (h .1 .1);
+      },
+    )
 
 pub transfer-spec : {M : Type 1} → statement M
 transfer-spec =
     tie.close
-    (tie.spec pick-requires write-words-requires size-requires same-length same-length-2 returns)
+    (tie.spec
+    pick-requires
+    write-words-requires
+    size-requires
+    same-length
+    same-length-2
+    same-length-3
+    returns)

@@ -1,0 +1,351 @@
+-- A round by the queues' heads: the outputs with the lowest reading among those that can be served, the first cell for each, the first of these.
+-- Assumes nothing.
+use Prim.Native.Nat.{ℕ, zero, suc, _^_, _≤_, _<_}
+use mathlib.Core.Path.{_≡_, refl, sym, ap, ap₂, _∙_, subst}
+use mathlib.Core.Logic.{_⊎_, inl, inr, ⊎-elim}
+use mathlib.Core.Bool.{Bool, So, true, false, not, _&&_, false≢true, and-true, and-not-self}
+use mathlib.Core.List.{List, []}
+use native.Mathlib.Omega.{arith}
+use lib.Dec.{eqb, ltb}
+use lib.ListN.{length, getD}
+use borrow.Author.Tests.{eqb-true, eqb-false, eq-eqb}
+use Rattle.laws.specs.Tests.{No, passes, refuted, to-no, both, join, denied, deny, fails-right}
+use Rattle.laws.specs.Count.{any, any→, →any}
+use Rattle.laws.specs.Order.{lower, lower-below, lower-equal, ranks-on}
+use Rattle.laws.specs.Least.{least, Below}
+use Rattle.laws.specs.First.{Ahead, First, firstOf, firstOf-below, first-join, first-alike, first-least, first-below, least-first}
+use Rattle.laws.specs.declared.Found.{Found}
+use Rattle.laws.specs.declared.Found.the-variants.{At, Nothing}
+use Rattle.ports.specs.Ports.{has, Added, Removed, Except}
+use Rattle.ports.specs.PortLaws.{has-none, has-all, none-inside, removed-part, removed-out, removed-split, added-split}
+use Rattle.rules.specs.declared.Cell.{Cell}
+use Rattle.rules.specs.Cells.{nth, outputOf, isWaiting, older, before, readingFor}
+use Rattle.ideal.specs.Cells.{waiting→, older-ranks, before-ranks}
+use Rattle.queues.specs.Queues.{pair, named, named-name, isFound, headWord, senders, waitsFor, waits→, →waits, olderAt, headBelow, headOf, Ports, All, Queues}
+use Rattle.queues.specs.Heads.{head-below}
+use Rattle.matching.specs.Picking.{candidate, firstCandidate, InPorts}
+
+-- record i stands before record j
+abbrev pub beforeAt : List ℕ → List Cell → ℕ → ℕ → Bool
+beforeAt r cs i j = before r (nth cs i) (nth cs j)
+
+-- a waiting cell for output o whose input is not in the set
+unfoldable pub waitsOn : (ℕ → Bool) → ℕ → Cell → Bool
+waitsOn ins o c = isWaiting c && not (ins (c .input .0)) && eqb (c .output .0) o
+
+-- of those, the one that stands before the others
+unfoldable pub firstFor : List ℕ → (ℕ → Bool) → ℕ → List Cell → Found
+firstFor r ins o cs = least (λ k. waitsOn ins o (nth cs k)) (beforeAt r cs) (length cs)
+
+-- there is one
+unfoldable pub isServable : (ℕ → Bool) → ℕ → List Cell → Bool
+isServable ins o cs = any (λ k. waitsOn ins o (nth cs k)) (length cs)
+
+-- the table's waiting cells have ports
+pub in-ports : {n : ℕ} {cs : List Cell} → n ≤ 16 → InPorts n cs → Ports cs
+in-ports l f = record {
+  inputs = λ k i w. omega (arith, f .inputs k i (waiting→ _ w), l);
+  outputs = λ k i w. omega (arith, f .outputs k i (waiting→ _ w), l);
+}
+
+module _ (ins : ℕ → Bool) (o : ℕ) (c : Cell) where
+  pub waitsOn→ : So (waitsOn ins o c) → So (isWaiting c) × No (ins (c .input .0)) × (c .output .0 ≡ o)
+  unfolding waitsOn
+  waitsOn→ h =
+      let a = both (isWaiting c && not (ins (c .input .0))) _ h in
+      let b = both (isWaiting c) _ (a .0) in
+      (b .0, denied _ (b .1), eqb-true (c .output .0) o (a .1))
+
+  pub →waitsOn : So (isWaiting c) → No (ins (c .input .0)) → c .output .0 ≡ o → So (waitsOn ins o c)
+  unfolding waitsOn
+  →waitsOn w n e = join _ _ (join _ _ w (deny _ n)) (eq-eqb _ _ e)
+
+module _ (ins outs : ℕ → Bool) (c : Cell) where
+  pub candidate→ : So (candidate ins outs c) → So (isWaiting c) × No (ins (c .input .0)) × No (outs (c .output .0))
+  unfolding candidate
+  candidate→ h =
+      let a = both (isWaiting c && not (ins (c .input .0))) _ h in
+      let b = both (isWaiting c) _ (a .0) in
+      (b .0, denied _ (b .1), denied _ (a .1))
+
+  pub →candidate : So (isWaiting c) → No (ins (c .input .0)) → No (outs (c .output .0)) → So (candidate ins outs c)
+  unfolding candidate
+  →candidate w n m = join _ _ (join _ _ w (deny _ n)) (deny _ m)
+
+-- The head of a pair ----------------------------------------------------------------------------------
+
+-- for cells of one output the age decides
+before-older : (r : List ℕ) (c d : Cell) → c .output .0 ≡ d .output .0 → before r c d ≡ older c d
+unfolding before readingFor
+before-older r c d e = lower-equal _ _ _ (ap (λ (o : ℕ). getD r o 0) e)
+
+-- a lower reading stands before
+before-lower : (r : List ℕ) (c d : Cell) → readingFor r (c .output) < readingFor r (d .output) → So (before r c d)
+unfolding before
+before-lower r c d l = lower-below _ _ _ l
+
+module _ (r : List ℕ) (cs : List Cell) (i o : ℕ) where
+  pub head-first : First (λ k. waitsFor i o (nth cs k)) (beforeAt r cs) (length cs) (headOf cs i o)
+  unfolding headBelow
+  head-first =
+      first-alike _ _ (olderAt cs) (beforeAt r cs) (length cs) (λ k l. refl)
+      (λ j k l m x y. sym (before-older r (nth cs j) (nth cs k) (waits→ i o (nth cs j) x .2 ∙ sym (waits→ i o (nth cs k) y .2))))
+      (headOf cs i o)
+      (least-first (olderAt cs) (ranks-on older older-ranks (nth cs)) (λ k. waitsFor i o (nth cs k)) (length cs))
+
+  -- there is a head where a cell of the pair waits
+  found-head : (x : Found) → First (λ k. waitsFor i o (nth cs k)) (beforeAt r cs) (length cs) x → (k : ℕ) → k < length cs → So (waitsFor i o (nth cs k)) → So (isFound x)
+  found-head (At j) h k l w = refl
+  found-head Nothing h k l w = absurd (h k l w)
+
+  head-found : (x : Found) → First (λ k. waitsFor i o (nth cs k)) (beforeAt r cs) (length cs) x → So (isFound x) → (k : ℕ) × (k < length cs) × So (waitsFor i o (nth cs k))
+  head-found (At j) h w = (j, h .0, h .1)
+  head-found Nothing h w = absurd (false≢true w)
+
+-- found is the first of the cells for o whose inputs are not in the set and not left
+pub record Scanned (r : List ℕ) (ins : ℕ → Bool) (o : ℕ) (cs : List Cell) (left : ℕ) (found : Found) : Type 0 where
+  pub part : (i : ℕ) → So (has left i) → No (ins i)
+  pub first : First (λ k. waitsOn ins o (nth cs k) && not (has left (nth cs k .input .0))) (beforeAt r cs) (length cs) found
+
+module _ {cs : List Cell} {qs : List ℕ} (q : Queues All cs qs) where
+  -- what the queues say of a pair
+  pub head-read : (i o : ℕ) → i < 16 → o < 16 → named (headWord qs i o) ≡ headOf cs i o
+  head-read i o l m = ap named (q .heads .head i o l m tt) ∙ named-name (headOf cs i o)
+
+  pub head-below-records : (i o : ℕ) → i < 16 → o < 16 → {n : ℕ} → length cs ≡ n → (x : Found) → x ≡ named (headWord qs i o) → Below n x
+  head-below-records i o l m e x h = rw (h, head-read i o l m, ← e) (head-below cs (length cs) i o)
+
+  sends : (k : ℕ) → k < length cs → So (isWaiting (nth cs k)) → So (has (senders qs (nth cs k .output .0)) (nth cs k .input .0))
+  sends k l w =
+      q .heads .sends (nth cs k .input .0) (nth cs k .output .0) (q .ports .inputs k l w) (q .ports .outputs k l w) tt
+      ∙ found-head [] cs _ _ (headOf cs _ _) (head-first [] cs _ _) k l (→waits _ _ (nth cs k) w refl refl)
+
+  sent : (i o : ℕ) → i < 16 → o < 16 → So (has (senders qs o) i) → (k : ℕ) × (k < length cs) × So (waitsFor i o (nth cs k))
+  sent i o l m h = head-found [] cs i o (headOf cs i o) (head-first [] cs i o) (sym (q .heads .sends i o l m tt) ∙ h)
+
+  -- Whether an output can be served ---------------------------------------------------------------------
+
+  module _ (ins o left : ℕ) (m : o < 16) (e : Except (senders qs o) ins left) where
+    -- such a cell's input is in what is left of the senders
+    left-has : (k : ℕ) → k < length cs → So (waitsOn (has ins) o (nth cs k)) → So (has left (nth cs k .input .0))
+    left-has k l h =
+        let w = waitsOn→ (has ins) o (nth cs k) h in
+        e .each (nth cs k .input .0) ∙ join _ _ (subst (λ (p : ℕ). So (has (senders qs p) (nth cs k .input .0))) (w .2) (sends k l (w .0))) (deny _ (w .1))
+
+    is-servable : left < 2 ^ 16 → (left ≡ 0 → ⊥) → So (isServable (has ins) o cs)
+    unfolding isServable
+    is-servable small ne = ⊎-elim (λ x. x) (λ x. absurd (ne (none-inside left small (λ i l. to-no (λ h. none x i l h))))) (passes (any (λ k. waitsOn (has ins) o (nth cs k)) (length cs)))
+      where
+        none : No (any (λ k. waitsOn (has ins) o (nth cs k)) (length cs)) → (i : ℕ) → i < 16 → So (has left i) → ⊥
+        none x i l h =
+            let b = both (has (senders qs o) i) _ (sym (e .each i) ∙ h) in
+            let s = sent i o l m (b .0) in
+            let w = waits→ i o (nth cs (s .0)) (s .2) in
+            refuted (→any (λ k. waitsOn (has ins) o (nth cs k)) (length cs) (s .0) (s .1) (→waitsOn (has ins) o (nth cs (s .0)) (w .0) (ap (has ins) (w .1) ∙ denied _ (b .1)) (w .2))) x
+
+    not-servable : left ≡ 0 → No (isServable (has ins) o cs)
+    unfolding isServable
+    not-servable z = to-no (λ x. let k = any→ (λ k. waitsOn (has ins) o (nth cs k)) (length cs) x in refuted (left-has (k .0) (k .1) (k .2)) (ap (λ (v : ℕ). has v (nth cs (k .0) .input .0)) z ∙ has-none _))
+
+    -- the test of the code
+    pub servable-test : left < 2 ^ 16 → not (eqb left 0) ≡ isServable (has ins) o cs
+    servable-test small = ⊎-elim (λ x. ap not x ∙ sym (not-servable (eqb-true left 0 x))) (λ x. ap not x ∙ sym (is-servable small (eqb-false left 0 x))) (passes (eqb left 0))
+
+    pub scan-none : (r : List ℕ) → Scanned r (has ins) o cs left Nothing
+    scan-none r = record {
+      part = λ i h. denied _ (both (has (senders qs o) i) _ (sym (e .each i) ∙ h) .1);
+      first = λ k l h. let b = both (waitsOn (has ins) o (nth cs k)) _ h in refuted (left-has k l (b .0)) (denied _ (b .1));
+    }
+
+module _ {r : List ℕ} {ins : ℕ → Bool} {o : ℕ} {cs : List Cell} where
+  pub scan-more : {left rest : ℕ} {found : Found} (i : ℕ) → Scanned r ins o cs left found → So (has left i) → Removed left i rest
+      → Scanned r ins o cs rest (firstOf (beforeAt r cs) found (headOf cs i o))
+  scan-more {left} {rest} {found} i s h d = record {
+    part = λ j x. s .part j (removed-part d j x);
+    first =
+        first-join (beforeAt r cs) (ranks-on (before r) (before-ranks r) (nth cs)) _ (λ k. waitsFor i o (nth cs k)) _ (length cs)
+        (λ k l x. let b = both (waitsOn ins o (nth cs k)) _ x in join _ _ (b .0) (deny _ (removed-out d _ (denied _ (b .1)))))
+        (λ k l x.
+        let w = waits→ i o (nth cs k) x in
+        join _ _ (→waitsOn ins o (nth cs k) (w .0) (ap ins (w .1) ∙ s .part i h) (w .2)) (deny _ (ap (has rest) (w .1) ∙ d .outside)))
+        (λ k l x.
+        let b = both (waitsOn ins o (nth cs k)) _ x in
+        let w = waitsOn→ ins o (nth cs k) (b .0) in
+        ⊎-elim (λ e. inr (→waits i o (nth cs k) (w .0) e (w .2))) (λ n. inl (join _ _ (b .0) (deny _ n))) (removed-split d (nth cs k .input .0) (denied _ (b .1))))
+        found (headOf cs i o) (s .first) (head-first r cs i o);
+  }
+
+  pub scan-below : {left : ℕ} {found : Found} → Scanned r ins o cs left found → Below (length cs) found
+  scan-below {left} {found} s = first-below (λ k. waitsOn ins o (nth cs k) && not (has left (nth cs k .input .0))) (beforeAt r cs) (length cs) found (s .first)
+
+  pub scan-all : {found : Found} → Scanned r ins o cs 0 found → found ≡ firstFor r ins o cs
+  unfolding firstFor
+  scan-all {found} s =
+      first-least (beforeAt r cs) (ranks-on (before r) (before-ranks r) (nth cs)) (λ k. waitsOn ins o (nth cs k)) (length cs) found
+      (first-alike _ _ _ _ (length cs) (λ k l. ap (λ (b : Bool). waitsOn ins o (nth cs k) && not b) (has-none (nth cs k .input .0)) ∙ and-true (waitsOn ins o (nth cs k))) (λ j k l m x y. refl) found (s .first))
+
+module _ (r : List ℕ) (ins : ℕ → Bool) (o : ℕ) (cs : List Cell) where
+  first-for : First (λ k. waitsOn ins o (nth cs k)) (beforeAt r cs) (length cs) (firstFor r ins o cs)
+  unfolding firstFor
+  first-for = least-first (beforeAt r cs) (ranks-on (before r) (before-ranks r) (nth cs)) (λ k. waitsOn ins o (nth cs k)) (length cs)
+
+  pub first-for-below : Below (length cs) (firstFor r ins o cs)
+  first-for-below = first-below (λ k. waitsOn ins o (nth cs k)) (beforeAt r cs) (length cs) (firstFor r ins o cs) first-for
+
+-- The lowest readings ---------------------------------------------------------------------------------
+
+-- the outputs of the set can be served and have the reading low; of the outputs that are neither taken nor left, no other with such a reading can,
+-- and none with a lower
+pub record Low (r : List ℕ) (ins outs : ℕ → Bool) (cs : List Cell) (left s low : ℕ) : Type 0 where
+  pub part : (o : ℕ) → So (has left o) → No (outs o)
+  pub inside : (o : ℕ) → So (has s o) → So (isServable ins o cs) × No (outs o) × (readingFor r (outputOf o) ≡ low)
+  pub beyond : (o : ℕ) → o < 16 → No (outs o) → No (has left o) → So (isServable ins o cs) → No (has s o) → low < readingFor r (outputOf o)
+  pub some : (o : ℕ) → o < 16 → No (outs o) → No (has left o) → So (isServable ins o cs) → (p : ℕ) × So (has s p)
+
+-- all outputs looked at
+pub record Lows (r : List ℕ) (ins outs : ℕ → Bool) (cs : List Cell) (s : ℕ) : Type 0 where
+  pub low : ℕ
+  pub all : Low r ins outs cs 0 s low
+
+-- how an output o with reading x changes the set s of outputs with the lowest reading
+abbrev pub Lowered : ℕ → ℕ → ℕ → ℕ → ℕ → ℕ → Type 0
+Lowered x o s low t lower = (((s ≡ 0) ⊎ (x < low)) × Added 0 o t × (lower ≡ x)) ⊎ (((x ≡ low) × Added s o t × (lower ≡ low)) ⊎ ((low < x) × ((p : ℕ) × So (has s p)) × (t ≡ s) × (lower ≡ low)))
+
+module _ {r : List ℕ} {ins outs : ℕ → Bool} {cs : List Cell} where
+  pub low-none : {taken left : ℕ} → ((q : ℕ) → has taken q ≡ outs q) → Except 65535 taken left → (low : ℕ) → Low r ins outs cs left 0 low
+  low-none {taken} {left} same e low = record {
+    part = λ o h. sym (same o) ∙ denied _ (both (has 65535 o) _ (sym (e .each o) ∙ h) .1);
+    inside = λ o h. absurd (refuted h (has-none o));
+    beyond = λ o l n m. absurd (refuted (there o l n) m);
+    some = λ o l n m. absurd (refuted (there o l n) m);
+  }
+    where
+      there : (o : ℕ) → o < 16 → No (outs o) → So (has left o)
+      there o l n = e .each o ∙ join _ _ (has-all o l) (deny _ (same o ∙ n))
+
+  module _ {left s low : ℕ} (h : Low r ins outs cs left s low) (o : ℕ) (x : So (has left o)) {rest : ℕ} (d : Removed left o rest) where
+    -- it cannot be served
+    pub low-skip : No (isServable ins o cs) → Low r ins outs cs rest s low
+    low-skip n = record {
+      part = λ p y. h .part p (removed-part d p y);
+      inside = h .inside;
+      beyond = λ p l a b c. h .beyond p l a (old p b c) c;
+      some = λ p l a b c. h .some p l a (old p b c) c;
+    }
+      where
+        old : (p : ℕ) → No (has rest p) → So (isServable ins p cs) → No (has left p)
+        old p b c = ⊎-elim (λ e. absurd (refuted c (ap (λ (v : ℕ). isServable ins v cs) e ∙ n))) (λ m. m) (removed-split d p b)
+
+    -- it can
+    module _ (w : So (isServable ins o cs)) {v t lower : ℕ} (e : v ≡ readingFor r (outputOf o)) where
+      pub low-step : Lowered v o s low t lower → Low r ins outs cs rest t lower
+      low-step (inl (c, a, q)) = record {
+        part = λ p y. h .part p (removed-part d p y);
+        inside = λ p y. let z = only p y in rw (z, q) (w, h .part o x, sym e);
+        beyond = λ p l m n y k. ⊎-elim (λ z. absurd (refuted (ap (has t) z ∙ a .inside) k)) (λ z. rw (q) (⊎-elim (λ u. absurd (let g = h .some p l m z y in refuted (ap (λ (b : ℕ). has b (g .0)) (sym u) ∙ g .1) (has-none (g .0)))) (λ u. above p l m z y u) c)) (removed-split d p n);
+        some = λ p l m n y. (o, a .inside);
+      }
+        where
+          only : (p : ℕ) → So (has t p) → p ≡ o
+          only p y = ⊎-elim (λ z. z) (λ z. absurd (refuted z (has-none p))) (added-split a p y)
+
+          above : (p : ℕ) → p < 16 → No (outs p) → No (has left p) → So (isServable ins p cs) → v < low → v < readingFor r (outputOf p)
+          above p l m z y u = ⊎-elim (λ k. omega (arith, h .inside p k .2)) (λ k. omega (arith, h .beyond p l m z y k)) (passes (has s p))
+      low-step (inr (inl (c, a, q))) = record {
+        part = λ p y. h .part p (removed-part d p y);
+        inside = λ p y. rw q (⊎-elim (λ (z : p ≡ o). rw z (w, h .part o x, sym e ∙ c)) (λ z. h .inside p z) (added-split a p y));
+        beyond = λ p l m n y k. rw q (⊎-elim (λ z. absurd (refuted (ap (has t) z ∙ a .inside) k)) (λ z. h .beyond p l m z y (out p k)) (removed-split d p n));
+        some = λ p l m n y. (o, a .inside);
+      }
+        where
+          out : (p : ℕ) → No (has t p) → No (has s p)
+          out p k = ⊎-elim (λ z. absurd (refuted (ap (has t) (eqb-true p o z) ∙ a .inside) k)) (λ z. sym (a .others p (eqb-false p o z)) ∙ k) (passes (eqb p o))
+      low-step (inr (inr (c, g, a, q))) = rw (a, q) (record {
+        part = λ p y. h .part p (removed-part d p y);
+        inside = h .inside;
+        beyond = λ p l m n y k. ⊎-elim (λ z. rw z (omega (arith, c, e))) (λ z. h .beyond p l m z y k) (removed-split d p n);
+        some = λ p l m n y. g;
+      })
+
+-- The round -------------------------------------------------------------------------------------------
+
+-- found is the first of the candidates whose outputs are in the set and not left
+pub record Round (r : List ℕ) (ins outs : ℕ → Bool) (cs : List Cell) (s left : ℕ) (found : Found) : Type 0 where
+  pub part : (o : ℕ) → So (has left o) → So (has s o)
+  pub first : First (λ k. candidate ins outs (nth cs k) && (has s (nth cs k .output .0) && not (has left (nth cs k .output .0)))) (beforeAt r cs) (length cs) found
+
+module _ {r : List ℕ} {ins outs : ℕ → Bool} {cs : List Cell} {s : ℕ} where
+  pub round-none : Round r ins outs cs s s Nothing
+  round-none = record {
+    part = λ o h. h;
+    first = λ k l h. refuted (both (candidate ins outs (nth cs k)) _ h .1) (and-not-self (has s (nth cs k .output .0)));
+  }
+
+  pub round-below : {left : ℕ} {found : Found} → Round r ins outs cs s left found → Below (length cs) found
+  round-below {left} {found} t = first-below (λ k. candidate ins outs (nth cs k) && (has s (nth cs k .output .0) && not (has left (nth cs k .output .0)))) (beforeAt r cs) (length cs) found (t .first)
+
+  module _ (w : Lows r ins outs cs s) where
+    pub round-more : {left rest : ℕ} {found : Found} (o : ℕ) → Round r ins outs cs s left found → So (has left o) → Removed left o rest
+        → Round r ins outs cs s rest (firstOf (beforeAt r cs) found (firstFor r ins o cs))
+    round-more {left} {rest} {found} o t h d = record {
+      part = λ p x. t .part p (removed-part d p x);
+      first =
+          first-join (beforeAt r cs) (ranks-on (before r) (before-ranks r) (nth cs)) _ (λ k. waitsOn ins o (nth cs k)) _ (length cs)
+          (λ k l x.
+          let a = both (candidate ins outs (nth cs k)) _ x in
+          let b = both (has s (nth cs k .output .0)) _ (a .1) in
+          join _ _ (a .0) (join _ _ (b .0) (deny _ (removed-out d _ (denied _ (b .1))))))
+          (λ k l x.
+          let v = waitsOn→ ins o (nth cs k) x in
+          join _ _ (→candidate ins outs (nth cs k) (v .0) (v .1) (ap outs (v .2) ∙ w .all .inside o (t .part o h) .1)) (join _ _ (ap (has s) (v .2) ∙ t .part o h) (deny _ (ap (has rest) (v .2) ∙ d .outside))))
+          (λ k l x.
+          let a = both (candidate ins outs (nth cs k)) _ x in
+          let b = both (has s (nth cs k .output .0)) _ (a .1) in
+          let v = candidate→ ins outs (nth cs k) (a .0) in
+          ⊎-elim (λ e. inr (→waitsOn ins o (nth cs k) (v .0) (v .1) e)) (λ n. inl (join _ _ (a .0) (join _ _ (b .0) (deny _ n)))) (removed-split d (nth cs k .output .0) (denied _ (b .1))))
+          found (firstFor r ins o cs) (t .first) (first-for r ins o cs);
+    }
+
+    module _ (f : Ports cs) where
+      -- a candidate beyond the set
+      servable : (k : ℕ) → k < length cs → So (candidate ins outs (nth cs k)) → So (isServable ins (nth cs k .output .0) cs)
+      unfolding isServable
+      servable k l x = let v = candidate→ ins outs (nth cs k) x in →any (λ j. waitsOn ins (nth cs k .output .0) (nth cs j)) (length cs) k l (→waitsOn ins (nth cs k .output .0) (nth cs k) (v .0) (v .1) refl)
+
+      inset : (k : ℕ) → So (candidate ins outs (nth cs k)) → So (has s (nth cs k .output .0)) → So (candidate ins outs (nth cs k) && (has s (nth cs k .output .0) && not (has 0 (nth cs k .output .0))))
+      inset k x y = join _ _ x (join _ _ y (deny _ (has-none _)))
+
+      member : (p : ℕ) → So (isServable ins p cs) → No (outs p) → (k : ℕ) × (k < length cs) × So (candidate ins outs (nth cs k)) × (nth cs k .output .0 ≡ p)
+      unfolding isServable
+      member p x n =
+          let k = any→ (λ j. waitsOn ins p (nth cs j)) (length cs) x in
+          let v = waitsOn→ ins p (nth cs (k .0)) (k .2) in
+          (k .0, k .1, →candidate ins outs (nth cs (k .0)) (v .0) (v .1) (ap outs (v .2) ∙ n), v .2)
+
+      whole : (found : Found) → Round r ins outs cs s 0 found → First (λ k. candidate ins outs (nth cs k)) (beforeAt r cs) (length cs) found
+      whole (At k) t =
+          let a = both (candidate ins outs (nth cs k)) _ (t .first .1) in
+          let b = both (has s (nth cs k .output .0)) _ (a .1) in (
+            t .first .0,
+            a .0,
+            λ j l x. ⊎-elim
+                (λ y. t .first .2 j l (inset j x y))
+                (λ y.
+                let v = candidate→ ins outs (nth cs j) x in
+                inl (before-lower r (nth cs k) (nth cs j) (omega (arith, w .all .inside (nth cs k .output .0) (b .0) .2, w .all .beyond (nth cs j .output .0) (f .outputs j l (v .0)) (v .2) (has-none (nth cs j .output .0)) (servable j l x) y))))
+                (passes (has s (nth cs j .output .0))),
+          )
+      whole Nothing t = λ j l x.
+          ⊎-elim
+          (λ y. t .first j l (inset j x y))
+          (λ y.
+          let v = candidate→ ins outs (nth cs j) x in
+          let p = w .all .some (nth cs j .output .0) (f .outputs j l (v .0)) (v .2) (has-none (nth cs j .output .0)) (servable j l x) in
+          let g = w .all .inside (p .0) (p .1) in
+          let k = member (p .0) (g .0) (g .1) in
+          t .first (k .0) (k .1) (inset (k .0) (k .2) (ap (has s) (k .3) ∙ p .1)))
+          (passes (has s (nth cs j .output .0)))
+
+      pub round-all : {found : Found} → Round r ins outs cs s 0 found → found ≡ firstCandidate r ins outs cs
+      unfolding firstCandidate
+      round-all {found} t = first-least (beforeAt r cs) (ranks-on (before r) (before-ranks r) (nth cs)) (λ k. candidate ins outs (nth cs k)) (length cs) found (whole found t)
