@@ -6,22 +6,27 @@ use std::time::Instant;
 
 use second::generate::{valid_arrivals, Random, Traffic};
 
-const LINES: usize = 100_000;
+pub const LINES: usize = 100_000;
+/// Of a hundred slots, in how many an input brings a cell.
+pub const LOAD: u32 = 50;
 const RUNS: usize = 5;
 
 /// One text and the lines a second that each program reads of it.
 pub struct Lines {
-    pub text: String,
+    pub ports: u32,
+    pub speedup: u32,
+    pub records: u32,
     pub proved: f64,
     pub scans: f64,
-    pub sorted: f64,
+    pub fastest: f64,
 }
 
 pub fn measure(program: &str, plain: &str) -> Vec<Lines> {
-    [(4, 3, 64, 50), (16, 3, 1024, 50)]
-        .map(|(ports, speedup, records, load)| {
-            let path = std::env::temp_dir().join(format!("treikwater-lines-{}", std::process::id()));
-            fs::write(&path, text(ports, speedup, records, load)).expect("room for a text");
+    [(2, 3, 16), (4, 3, 64), (16, 3, 1024)]
+        .map(|(ports, speedup, records)| {
+            let path =
+                std::env::temp_dir().join(format!("treikwater-lines-{}", std::process::id()));
+            fs::write(&path, text(ports, speedup, records)).expect("room for a text");
             let run = |program: &str, arguments: &[&str]| {
                 let mut rates: Vec<f64> = (0..RUNS)
                     .map(|_| rate(Command::new(program).args(arguments), &path))
@@ -30,10 +35,12 @@ pub fn measure(program: &str, plain: &str) -> Vec<Lines> {
                 rates[RUNS / 2]
             };
             let lines = Lines {
-                text: format!("N {ports}, S {speedup}, {records} records, an input brings a cell in {load} of 100 slots"),
+                ports,
+                speedup,
+                records,
                 proved: run(program, &[]),
                 scans: run(plain, &["scans"]),
-                sorted: run(plain, &["sorted"]),
+                fastest: run(plain, &["ranked"]),
             };
             fs::remove_file(&path).expect("the text was written");
             lines
@@ -52,10 +59,10 @@ fn rate(command: &mut Command, text: &std::path::Path) -> f64 {
     LINES as f64 / start.elapsed().as_secs_f64()
 }
 
-fn text(ports: u32, speedup: u32, records: u32, load: u32) -> String {
+fn text(ports: u32, speedup: u32, records: u32) -> String {
     let mut random = Random::new(9);
     let traffic = Traffic {
-        load,
+        load: LOAD,
         first_output: 0,
         outputs: ports,
     };

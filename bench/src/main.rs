@@ -3,6 +3,7 @@
 //!
 //!     bench REPORT PLAIN [PROGRAM]    PLAIN is the plain program, PROGRAM the proved one
 
+mod goals;
 mod lines;
 mod report;
 mod timing;

@@ -1,33 +1,25 @@
 //! The tables as a page.
 
-use std::fmt::Write;
 use std::{fs, thread};
 
 use bench::states::{Setting, LOAD, STATES, WAITING};
 
-use crate::lines::Lines;
+use crate::goals::goals;
+use crate::lines::{self, Lines};
 use crate::timing::Times;
 
-pub fn written(
-    slots: &[(Setting, Times)],
-    growth: &[(Setting, Times)],
-    lines: Option<&[Lines]>,
-) -> String {
-    let mut page = head();
-    page += "## A slot, in nanoseconds\n\n";
-    page += "| N | S | records | live | proved | (quartiles) | by scans | ratio | sorted | ratio | one read |\n";
-    page += "|---|---|---|---|---|---|---|---|---|---|---|\n";
-    slots.iter().for_each(|row| slot_row(&mut page, row));
-    page += "\n## How the cost grows with the live cells (N 16, S 3, 1,024 records)\n\n";
-    page += "| live | proved | by scans | sorted | proved, for each live cell more |\n";
-    page += "|---|---|---|---|---|\n";
-    growth_rows(&mut page, growth);
-    page += "\n## The program, in lines a second\n\n";
-    page += &lines.map_or(
-        "Not measured: no program was handed over.\n".to_string(),
-        line_table,
-    );
-    page
+type Row = (Setting, Times);
+
+pub fn written(slots: &[Row], growth: &[Row], lines: Option<&[Lines]>) -> String {
+    [
+        head(),
+        slot_table(slots),
+        goal_table(slots, lines),
+        part_table(slots),
+        growth_table(growth),
+        line_table(lines),
+    ]
+    .join("\n")
 }
 
 fn head() -> String {
@@ -35,13 +27,13 @@ fn head() -> String {
         "# What a slot costs\n\n\
 Made by `bench/run`. Machine: {}, {} cores; one thread; release builds without flags for one processor.\n\n\
 The proved slot, called through the library for other languages, beside two plain Rust slots that make the same checks on every call and\n\
-write the same words (`bench/tests` compares them). *By scans* has the proved slot's shape: a pass for each check and reading, a scan of the\n\
-table for each round of each phase and for each output. *Sorted* is the fastest plain Rust that we found: one pass that checks and gathers, the\n\
-waiting cells sorted once, each phase a walk over them. *One read* sums the words of the table: less than that nothing can cost that checks it.\n\
-The ratios are the proved slot's time by theirs.\n\n\
+write the same words (`bench/tests` compares the three). *By scans* has the obvious shape: a pass for each check and reading, a scan of the\n\
+table for each round of each phase and for each output. *Fastest* is the fastest plain Rust that we found: blocks of free records are skipped,\n\
+one pass over the live ones, waiting cells ranked as bits or, where there are many, in queues by input and output. *One read* sums the\n\
+words of the table: less than that nothing can cost that checks it. The ratios are the proved slot's time by theirs.\n\n\
 Each setting has {STATES} fit tables with so many live cells, {WAITING} of 100 waiting, any outputs, and an input brings a cell in {LOAD} of 100 cases. All are\n\
 timed in turn from the same states, which are copied back before each timed part, not in it, so that the tables are in the cache. Medians of\n\
-several passes over all settings; the quartiles tell how calm the machine was.\n\n",
+several passes over all settings; the quartiles tell how calm the machine was.\n",
         processor(),
         thread::available_parallelism().map_or(1, usize::from),
     )
@@ -55,58 +47,157 @@ fn processor() -> String {
         .to_string()
 }
 
-fn slot_row(page: &mut String, (s, t): &(Setting, Times)) {
-    let proved = t.proved.median;
-    let row = writeln!(
-        page,
-        "| {} | {} | {} | {} | {proved:.0} | {:.0} to {:.0} | {:.0} | {:.2} | {:.0} | {:.2} | {:.0} |",
-        s.ports,
-        s.speedup,
-        s.records,
-        s.live,
-        t.proved.low,
-        t.proved.high,
-        t.scans.median,
-        proved / t.scans.median,
-        t.sorted.median,
-        proved / t.sorted.median,
-        t.floor.median
-    );
-    row.expect("a string takes all text");
+/// A heading, what is to be said, and a table with these columns.
+fn table(
+    heading: &str,
+    said: &str,
+    columns: &[&str],
+    rows: impl Iterator<Item = String>,
+) -> String {
+    let titles = columns.join(" | ");
+    let rule = "---|".repeat(columns.len());
+    let rows: String = rows.map(|row| format!("| {row} |\n")).collect();
+    format!("## {heading}\n\n{said}| {titles} |\n|{rule}\n{rows}")
 }
 
-fn growth_rows(page: &mut String, growth: &[(Setting, Times)]) {
-    let mut before: Option<&(Setting, Times)> = None;
-    for row in growth {
-        let (s, t) = row;
-        let more = before.map_or("".to_string(), |(earlier, then)| {
-            let cells = (s.live - earlier.live) as f64;
-            format!("{:.0}", (t.proved.median - then.proved.median) / cells)
+fn slot_table(slots: &[Row]) -> String {
+    let columns = [
+        "N",
+        "S",
+        "records",
+        "live",
+        "proved",
+        "(quartiles)",
+        "by scans",
+        "ratio",
+        "fastest",
+        "ratio",
+        "one read",
+    ];
+    let rows = slots.iter().map(|(s, t)| {
+        let (proved, scans, fastest) = (t.proved.median, t.scans.median, t.fastest.median);
+        format!(
+            "{} | {} | {} | {} | {proved:.0} | {:.0} to {:.0} | {scans:.0} | {:.2} | {fastest:.0} | {:.2} | {:.0}",
+            s.ports,
+            s.speedup,
+            s.records,
+            s.live,
+            t.proved.low,
+            t.proved.high,
+            proved / scans,
+            proved / fastest,
+            t.read.median
+        )
+    });
+    table("A slot, in nanoseconds", "", &columns, rows)
+}
+
+const GOALS: &str = "\
+The ratio of the proved to the fastest plain Rust, and what it is to be at most. *Exhale's passes apart*: less the time of the passes that\n\
+the next table explains, while the fastest keeps its own exhale. For the program, the lines a second of the faster\n\
+plain program by the proved one's.\n\n";
+
+fn goal_table(slots: &[Row], lines: Option<&[Lines]>) -> String {
+    let rows = goals(slots, lines).into_iter().map(|goal| {
+        let ratio = goal
+            .ratio
+            .map_or("".to_string(), |ratio| format!("{ratio:.2}"));
+        format!(
+            "{} | {} | {ratio} | {}",
+            goal.what,
+            goal.most,
+            goal.verdict()
+        )
+    });
+    table("Goals", GOALS, &["what", "at most", "ratio", ""], rows)
+}
+
+const PARTS: &str = "\
+The library has no calls for the parts, so they are told by calls that stop early, from the same states. *Fit check*: a call refused with 5,\n\
+the arrivals being a word short; it has looked at the sizes and at every record. *Other checks*: a call refused with 6 at the last input, less\n\
+that; the count of live cells for number 8 is not in it, since only a fuller table would be refused there. *Exhale's passes*: not the proved\n\
+code but a plain Rust loop of the same shape, a pass over the table for each output, on the tables as the phases leave them; an estimate.\n\
+*The rest* is what remains of the whole: the count of live cells, the inhale, the reading and the picking.\n\n";
+
+/// Of the large switch at speedup 3.
+fn part_table(slots: &[Row]) -> String {
+    let columns = [
+        "live",
+        "fit check",
+        "other checks",
+        "the rest",
+        "exhale's passes",
+        "whole",
+        "without exhale's passes",
+        "fastest",
+        "ratio",
+    ];
+    let large = slots
+        .iter()
+        .filter(|(s, _)| (s.ports, s.speedup) == (16, 3));
+    let rows = large.map(|(s, t)| {
+        let (fit, checks) = (t.fit.median, t.checks.median);
+        let (without, fastest) = (t.without_passes(), t.fastest.median);
+        format!(
+            "{} | {fit:.0} | {:.0} | {:.0} | {:.0} | {:.0} | {without:.0} | {fastest:.0} | {:.2}",
+            s.live,
+            checks - fit,
+            without - checks,
+            t.passes.median,
+            t.proved.median,
+            without / fastest
+        )
+    });
+    let heading = "Where the nanoseconds of a slot go (N 16, S 3, 1,024 records)";
+    table(heading, PARTS, &columns, rows)
+}
+
+fn growth_table(growth: &[Row]) -> String {
+    let said = "Beside each time, the same by live × log₂ live: level where a slot grows as sorting does.\n\n";
+    let columns = [
+        "live",
+        "proved",
+        "by n log n",
+        "by scans",
+        "by n log n",
+        "fastest",
+        "by n log n",
+    ];
+    let rows = growth.iter().map(|(s, t)| {
+        let live = s.live as f64;
+        let times = [t.proved, t.scans, t.fastest].map(|time| {
+            let median = time.median;
+            format!("{median:.0} | {:.1}", median / (live * live.log2()))
         });
-        let line = writeln!(
-            page,
-            "| {} | {:.0} | {:.0} | {:.0} | {more} |",
-            s.live, t.proved.median, t.scans.median, t.sorted.median
-        );
-        line.expect("a string takes all text");
-        before = Some(row);
-    }
+        format!("{} | {}", s.live, times.join(" | "))
+    });
+    let heading = "How the cost grows with the live cells (N 16, S 3, 1,024 records)";
+    table(heading, said, &columns, rows)
 }
 
-fn line_table(lines: &[Lines]) -> String {
-    let mut table = "| text of 100,000 lines | proved | plain, by scans | ratio | plain, sorted | ratio |\n|---|---|---|---|---|---|\n".to_string();
-    for line in lines {
-        let row = writeln!(
-            table,
-            "| {} | {:.0} | {:.0} | {:.2} | {:.0} | {:.2} |",
-            line.text,
-            line.proved,
-            line.scans,
-            line.proved / line.scans,
-            line.sorted,
-            line.proved / line.sorted
-        );
-        row.expect("a string takes all text");
-    }
-    table
+fn line_table(lines: Option<&[Lines]>) -> String {
+    let heading = "The program, in lines a second";
+    let Some(lines) = lines else {
+        return format!("## {heading}\n\nNot measured: no program was handed over.\n");
+    };
+    let said = format!(
+        "Texts of {} thousand lines in which an input brings a cell in {} of 100 slots. The ratios are the plain programs' lines by the proved one's.\n\n",
+        lines::LINES / 1000,
+        lines::LOAD
+    );
+    let columns = [
+        "N", "S", "records", "proved", "by scans", "ratio", "fastest", "ratio",
+    ];
+    let rows = lines.iter().map(|line| {
+        let (proved, scans, fastest) = (line.proved, line.scans, line.fastest);
+        format!(
+            "{} | {} | {} | {proved:.0} | {scans:.0} | {:.2} | {fastest:.0} | {:.2}",
+            line.ports,
+            line.speedup,
+            line.records,
+            scans / proved,
+            fastest / proved
+        )
+    });
+    table(heading, &said, &columns, rows)
 }

@@ -5,39 +5,40 @@ use crate::checks::{
     has_twin, is_sound, lists, sizes, was_marked, Numbers, MOST_PORTS, MOST_RECORDS, READY,
     WAITING, WIDTH,
 };
+use crate::Call;
 
 type Readings = [u32; MOST_PORTS];
 
-pub fn slot(
-    numbers: &mut [u32; 3],
-    table: &mut [u32],
-    arrivals: &[u32],
-    matches: &mut [u32],
-    exhaled: &mut [u32],
-) -> u32 {
-    let w = Numbers::of(numbers);
-    let number = check(w, table, arrivals, matches, exhaled);
+pub fn slot(call: Call) -> u32 {
+    let w = Numbers::of(call.numbers);
+    let number = check(w, &call);
     if number != 0 {
         return number;
     }
-    inhale(w, table, arrivals);
-    let readings = read(table);
-    transfers(w, table, matches, &readings);
-    exhale(table, exhaled);
-    numbers[2] += 1;
+    up_to_exhale(w, call.table, call.arrivals, call.matches);
+    exhale(call.table, call.exhaled);
+    call.numbers[2] += 1;
     0
 }
 
-fn check(w: Numbers, table: &[u32], arrivals: &[u32], matches: &[u32], exhaled: &[u32]) -> u32 {
-    let number = sizes(w, table);
+/// All that an accepted slot does before its exhale.
+pub fn up_to_exhale(w: Numbers, table: &mut [u32], arrivals: &[u32], matches: &mut [u32]) {
+    inhale(w, table, arrivals);
+    let readings = read(table);
+    transfers(w, table, matches, &readings);
+}
+
+fn check(w: Numbers, call: &Call) -> u32 {
+    let number = sizes(w, call.table);
     if number != 0 {
         return number;
     }
-    if !is_fit(w, table) {
+    if !is_fit(w, call.table) {
         return 4;
     }
-    let free = table.chunks_exact(WIDTH).filter(|r| r[0] == 0).count();
-    lists(w, free, arrivals, matches, exhaled)
+    let records = call.table.chunks_exact(WIDTH);
+    let free = records.filter(|record| record[0] == 0).count();
+    lists(w, free, call.arrivals, call.matches, call.exhaled)
 }
 
 fn is_fit(w: Numbers, table: &[u32]) -> bool {
@@ -111,7 +112,8 @@ fn first_candidate(table: &[u32], readings: &Readings, inputs: u16, outputs: u16
     found
 }
 
-fn exhale(table: &mut [u32], exhaled: &mut [u32]) {
+/// A pass over the table for each output.
+pub fn exhale(table: &mut [u32], exhaled: &mut [u32]) {
     for (output, words) in (0..).zip(exhaled.chunks_exact_mut(4)) {
         let Some(k) = oldest_ready(table, output) else {
             words.fill(0);

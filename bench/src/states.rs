@@ -1,5 +1,6 @@
 //! The states that are timed: fit tables with so many live cells, made before the clock runs.
 
+use crate::Call;
 use second::generate::{shaped_table, valid_arrivals, Era, Random, Shape, Traffic};
 
 const SEED: u64 = 7;
@@ -27,6 +28,18 @@ pub struct State {
     pub arrivals: Vec<u32>,
     pub matches: Vec<u32>,
     pub exhaled: Vec<u32>,
+}
+
+impl State {
+    pub fn call(&mut self) -> Call<'_> {
+        Call {
+            numbers: &mut self.numbers,
+            table: &mut self.table,
+            arrivals: &self.arrivals,
+            matches: &mut self.matches,
+            exhaled: &mut self.exhaled,
+        }
+    }
 }
 
 pub fn states(setting: Setting) -> Vec<State> {

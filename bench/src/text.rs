@@ -2,6 +2,7 @@
 
 use std::io::{self, BufRead, Write};
 
+use crate::states::State;
 use crate::SlotFn;
 
 const HEADER: &[u8] = b"slot output input entered tag\n";
@@ -20,14 +21,14 @@ pub fn run(slot: SlotFn, mut input: impl BufRead, mut out: impl Write) -> io::Re
     if number != 0 {
         return writeln!(out, "refused {number}");
     }
-    let mut switch = Switch {
-        slot,
+    let state = State {
         numbers: [ports, speedup, 0],
         table: vec![0; 5 * records as usize],
         arrivals: vec![0; 2 * ports as usize],
         matches: vec![0; (speedup * ports) as usize],
         exhaled: vec![0; 4 * ports as usize],
     };
+    let mut switch = Switch { slot, state };
     out.write_all(HEADER)?;
     switch.run(&mut input, &mut line, &mut out)?;
     writeln!(out, "held {}", switch.live())
@@ -47,11 +48,7 @@ fn sizes(ports: u32, speedup: u32, records: u32) -> u32 {
 
 struct Switch {
     slot: SlotFn,
-    numbers: [u32; 3],
-    table: Vec<u32>,
-    arrivals: Vec<u32>,
-    matches: Vec<u32>,
-    exhaled: Vec<u32>,
+    state: State,
 }
 
 impl Switch {
@@ -63,7 +60,9 @@ impl Switch {
     ) -> io::Result<()> {
         loop {
             match next_line(input, line)? {
-                Line::Whole(line) if read_arrivals(line, &mut self.arrivals) => self.slot(out)?,
+                Line::Whole(line) if read_arrivals(line, &mut self.state.arrivals) => {
+                    self.slot(out)?
+                }
                 Line::Whole(_) | Line::Torn => return out.write_all(b"unreadable\n"),
                 Line::End => return Ok(()),
             }
@@ -71,18 +70,12 @@ impl Switch {
     }
 
     fn slot(&mut self, out: &mut impl Write) -> io::Result<()> {
-        let now = self.numbers[2];
-        let number = (self.slot)(
-            &mut self.numbers,
-            &mut self.table,
-            &self.arrivals,
-            &mut self.matches,
-            &mut self.exhaled,
-        );
+        let now = self.state.numbers[2];
+        let number = (self.slot)(self.state.call());
         if number != 0 {
             return writeln!(out, "refused {number}");
         }
-        for (output, cell) in self.exhaled.chunks_exact(4).enumerate() {
+        for (output, cell) in self.state.exhaled.chunks_exact(4).enumerate() {
             if cell[0] != 0 {
                 writeln!(out, "{now} {output} {} {} {}", cell[1], cell[2], cell[3])?;
             }
@@ -91,7 +84,8 @@ impl Switch {
     }
 
     fn live(&self) -> usize {
-        self.table.chunks_exact(5).filter(|r| r[0] != 0).count()
+        let records = self.state.table.chunks_exact(5);
+        records.filter(|record| record[0] != 0).count()
     }
 }
 

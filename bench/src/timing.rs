@@ -1,10 +1,11 @@
-//! The clock: each slot function in turn over the same states, round after round, and the median.
+//! The clock: each function in turn over the same states, round after round, and the median.
 
 use std::hint::black_box;
 use std::time::Instant;
 
+use bench::checks::{Numbers, MOST_PORTS};
 use bench::states::{states, Setting, State, STATES};
-use bench::{proved, scans, sorted, SlotFn};
+use bench::{proved, ranked, scans, Call, SlotFn};
 
 /// Every setting is come back to so many times, so that a slow while of the machine meets them all.
 const PASSES: usize = 9;
@@ -34,9 +35,79 @@ impl Time {
 pub struct Times {
     pub proved: Time,
     pub scans: Time,
-    pub sorted: Time,
+    pub fastest: Time,
+    /// The proved slot up to a refusal with 5, and with 6 at the last input.
+    pub fit: Time,
+    pub checks: Time,
+    /// The exhale's passes, in plain Rust.
+    pub passes: Time,
     /// One read of the table.
-    pub floor: Time,
+    pub read: Time,
+}
+
+impl Times {
+    pub fn without_passes(&self) -> f64 {
+        self.proved.median - self.passes.median
+    }
+}
+
+/// What is timed: from which states, and the number that it gives.
+struct Timed {
+    slot: SlotFn,
+    before_exhale: bool,
+    number: u32,
+}
+
+impl Timed {
+    const fn slot(slot: SlotFn, number: u32) -> Timed {
+        Timed {
+            slot,
+            before_exhale: false,
+            number,
+        }
+    }
+}
+
+const TIMED: [Timed; 7] = [
+    Timed::slot(proved, 0),
+    Timed::slot(scans::slot, 0),
+    Timed::slot(ranked::slot, 0),
+    Timed::slot(|call| proved(one_word_short(call)), 5),
+    Timed::slot(|call| proved(no_such_output(call)), 6),
+    Timed {
+        slot: passes,
+        before_exhale: true,
+        number: 0,
+    },
+    Timed::slot(read, 0),
+];
+
+fn one_word_short(call: Call) -> Call {
+    let arrivals = &call.arrivals[1..];
+    Call { arrivals, ..call }
+}
+
+/// The last arrival is for an output that no switch has.
+fn no_such_output(call: Call) -> Call {
+    const LENGTH: usize = 2 * MOST_PORTS;
+    const WRONG: &[u32; LENGTH] = &{
+        let mut wrong = [0; LENGTH];
+        wrong[LENGTH - 2] = u32::MAX;
+        wrong
+    };
+    let arrivals = &WRONG[LENGTH - call.arrivals.len()..];
+    Call { arrivals, ..call }
+}
+
+fn passes(call: Call) -> u32 {
+    scans::exhale(call.table, call.exhaled);
+    0
+}
+
+fn read(call: Call) -> u32 {
+    let words = call.table.iter();
+    black_box(words.fold(0u32, |sum, &word| sum.wrapping_add(word)));
+    0
 }
 
 pub fn time(settings: &[Setting]) -> Vec<Times> {
@@ -50,8 +121,9 @@ pub fn time(settings: &[Setting]) -> Vec<Times> {
 /// The states of one setting, and what was measured on them so far.
 struct Clock {
     states: Vec<State>,
+    before_exhale: Vec<State>,
     work: Vec<State>,
-    samples: [Vec<f64>; 4],
+    samples: [Vec<f64>; TIMED.len()],
 }
 
 impl Clock {
@@ -59,31 +131,49 @@ impl Clock {
         let states = states(setting);
         Clock {
             work: states.clone(),
+            before_exhale: states.iter().cloned().map(before_exhale).collect(),
             states,
             samples: Default::default(),
         }
     }
 
     fn pass(&mut self) {
-        let slots = [proved as SlotFn, scans::slot, sorted::slot];
         for _ in 0..ROUNDS {
-            for (slot, samples) in slots.into_iter().zip(&mut self.samples) {
-                restore(&mut self.work, &self.states);
-                samples.push(nanoseconds(|| run_all(slot, &mut self.work)));
+            for (timed, samples) in TIMED.iter().zip(&mut self.samples) {
+                let from = if timed.before_exhale {
+                    &self.before_exhale
+                } else {
+                    &self.states
+                };
+                restore(&mut self.work, from);
+                samples.push(nanoseconds(timed, &mut self.work));
             }
-            self.samples[3].push(nanoseconds(|| read_all(&self.work)));
         }
     }
 
     fn times(self) -> Times {
-        let [proved, scans, sorted, floor] = self.samples.map(Time::of);
+        let [proved, scans, fastest, fit, checks, passes, read] = self.samples.map(Time::of);
         Times {
             proved,
             scans,
-            sorted,
-            floor,
+            fastest,
+            fit,
+            checks,
+            passes,
+            read,
         }
     }
+}
+
+/// The state as the phases of its slot leave it.
+fn before_exhale(mut s: State) -> State {
+    scans::up_to_exhale(
+        Numbers::of(&s.numbers),
+        &mut s.table,
+        &s.arrivals,
+        &mut s.matches,
+    );
+    s
 }
 
 /// Outside the timed part; leaves the tables in the cache for every function alike.
@@ -94,30 +184,10 @@ fn restore(work: &mut [State], states: &[State]) {
     }
 }
 
-fn nanoseconds(work: impl FnOnce()) -> f64 {
+fn nanoseconds(timed: &Timed, work: &mut [State]) -> f64 {
     let start = Instant::now();
-    work();
-    start.elapsed().as_nanos() as f64 / STATES as f64
-}
-
-fn run_all(slot: SlotFn, work: &mut [State]) {
     for s in work {
-        let number = black_box(slot)(
-            &mut s.numbers,
-            &mut s.table,
-            &s.arrivals,
-            &mut s.matches,
-            &mut s.exhaled,
-        );
-        assert_eq!(number, 0);
+        assert_eq!(black_box(timed.slot)(s.call()), timed.number);
     }
-}
-
-fn read_all(work: &[State]) {
-    for state in work {
-        let sum = black_box(&state.table)
-            .iter()
-            .fold(0u32, |sum, &word| sum.wrapping_add(word));
-        black_box(sum);
-    }
+    start.elapsed().as_nanos() as f64 / STATES as f64
 }

@@ -1,4 +1,4 @@
-//! The program of document 01 in plain Rust, by scans or sorted, for its lines a second.
+//! The program of document 01 in plain Rust, by scans or as fast as was found, for its lines a second.
 
 use std::env;
 use std::io::{self, BufWriter, Write};
@@ -6,8 +6,8 @@ use std::io::{self, BufWriter, Write};
 fn main() -> io::Result<()> {
     let slot = match env::args().nth(1).as_deref() {
         Some("scans") => bench::scans::slot,
-        Some("sorted") => bench::sorted::slot,
-        _ => panic!("usage: plain scans, or plain sorted"),
+        Some("ranked") => bench::ranked::slot,
+        _ => panic!("usage: plain scans, or plain ranked"),
     };
     let mut out = BufWriter::new(io::stdout().lock());
     bench::text::run(slot, io::stdin().lock(), &mut out)?;
