@@ -1,6 +1,7 @@
 //! Lines a second of the programs, on one text each, by a pipe to and from them.
 
 use std::fs::{self, File};
+use std::path::Path;
 use std::process::{Command, Stdio};
 use std::time::Instant;
 
@@ -9,7 +10,7 @@ use second::generate::{valid_arrivals, Random, Traffic};
 pub const LINES: usize = 100_000;
 /// Of a hundred slots, in how many an input brings a cell.
 pub const LOAD: u32 = 50;
-const RUNS: usize = 5;
+const RUNS: usize = 9;
 
 /// One text and the lines a second that each program reads of it.
 pub struct Lines {
@@ -24,31 +25,39 @@ pub struct Lines {
 pub fn measure(program: &str, plain: &str) -> Vec<Lines> {
     [(2, 3, 16), (4, 3, 64), (16, 3, 1024)]
         .map(|(ports, speedup, records)| {
-            let path =
-                std::env::temp_dir().join(format!("treikwater-lines-{}", std::process::id()));
+            let name = format!("treikwater-lines-{}", std::process::id());
+            let path = std::env::temp_dir().join(name);
             fs::write(&path, text(ports, speedup, records)).expect("room for a text");
-            let run = |program: &str, arguments: &[&str]| {
-                let mut rates: Vec<f64> = (0..RUNS)
-                    .map(|_| rate(Command::new(program).args(arguments), &path))
-                    .collect();
-                rates.sort_by(f64::total_cmp);
-                rates[RUNS / 2]
-            };
-            let lines = Lines {
+            let [proved, scans, fastest] = rates(program, plain, &path);
+            fs::remove_file(&path).expect("the text was written");
+            Lines {
                 ports,
                 speedup,
                 records,
-                proved: run(program, &[]),
-                scans: run(plain, &["scans"]),
-                fastest: run(plain, &["ranked"]),
-            };
-            fs::remove_file(&path).expect("the text was written");
-            lines
+                proved,
+                scans,
+                fastest,
+            }
         })
         .into()
 }
 
-fn rate(command: &mut Command, text: &std::path::Path) -> f64 {
+/// The three programs in turn, so that a slow while of the machine meets them all; the medians.
+fn rates(program: &str, plain: &str, text: &Path) -> [f64; 3] {
+    let mut samples: [Vec<f64>; 3] = Default::default();
+    for _ in 0..RUNS {
+        let [proved, scans, fastest] = &mut samples;
+        proved.push(rate(&mut Command::new(program), text));
+        scans.push(rate(Command::new(plain).arg("scans"), text));
+        fastest.push(rate(Command::new(plain).arg("ranked"), text));
+    }
+    samples.map(|mut rates| {
+        rates.sort_by(f64::total_cmp);
+        rates[RUNS / 2]
+    })
+}
+
+fn rate(command: &mut Command, text: &Path) -> f64 {
     let start = Instant::now();
     let status = command
         .stdin(File::open(text).expect("the text was written"))

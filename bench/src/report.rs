@@ -117,7 +117,7 @@ The library has no calls for the parts, so they are told by calls that stop earl
 the arrivals being a word short; it has looked at the sizes and at every record. *Other checks*: a call refused with 6 at the last input, less\n\
 that; the count of live cells for number 8 is not in it, since only a fuller table would be refused there. *Exhale's passes*: not the proved\n\
 code but a plain Rust loop of the same shape, a pass over the table for each output, on the tables as the phases leave them; an estimate.\n\
-*The rest* is what remains of the whole: the count of live cells, the inhale, the reading and the picking.\n\n";
+*The rest* is what remains of the whole: the count of live cells, the inhale, the reading and the picking. A part below zero is lost in the noise.\n\n";
 
 /// Of the large switch at speedup 3.
 fn part_table(slots: &[Row]) -> String {

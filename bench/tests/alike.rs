@@ -3,7 +3,7 @@
 
 mod tables;
 
-use bench::states::State;
+use bench::states::{states, Setting, State};
 use bench::{proved, ranked, scans, text, SlotFn};
 use second::generate::{self, call, damage_table, Call, Damage, Era, Random, Shape};
 use tables::{cells, state, table, Cell};
@@ -55,6 +55,19 @@ fn plain_slots_are_alike_on_random_calls() {
         for slot in PLAIN {
             assert_eq!(run(slot, of_call(call.clone())), expected, "{call:?}");
         }
+    }
+}
+
+#[test]
+fn all_slots_are_alike_on_the_timed_states() {
+    for live in [0, 32, 256, 1000] {
+        let setting = Setting {
+            ports: 16,
+            speedup: 8,
+            records: 1024,
+            live,
+        };
+        assert!(states(setting).iter().all(|s| agreed(s) == 0));
     }
 }
 

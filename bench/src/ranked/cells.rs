@@ -36,7 +36,7 @@ impl<const MOST: usize> Cells<MOST> {
     /// Takes all live cells: whether no two have the same slot and input. Each is written to both
     /// ends, and one end moves: a branch on the place would be guessed wrong half of the time.
     pub fn gather<const WORDS: usize>(&mut self, table: &[Record], live: &Live<WORDS>) -> bool {
-        let mut marks = [0u16; MOST];
+        let mut marks = [0u32; MOST];
         let mut again = Vec::new();
         let (mut front, mut back) = (0, MOST - 1);
         for (records, (&word, base)) in table

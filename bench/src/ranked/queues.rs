@@ -8,10 +8,8 @@ const QUEUES: usize = MOST_PORTS * MOST_PORTS;
 
 pub struct Queues<'a, const MOST: usize> {
     waiting: &'a [Key],
-    /// The oldest cell of each queue.
+    /// The oldest cell of each queue, if it has one.
     heads: [Key; QUEUES],
-    /// The inputs that have cells for each output.
-    inputs: [u16; MOST_PORTS],
     /// One more than some cell of each queue, and for each cell than another of its queue; 0 ends.
     first: [u16; QUEUES],
     next: [u16; MOST],
@@ -24,7 +22,6 @@ impl<'a, const MOST: usize> Queues<'a, MOST> {
         let mut queues = Queues {
             waiting,
             heads: [NO_CELL; QUEUES],
-            inputs: [0; MOST_PORTS],
             first: [0; QUEUES],
             next: [0; MOST],
             groups: groups(readings),
@@ -32,7 +29,6 @@ impl<'a, const MOST: usize> Queues<'a, MOST> {
         for ((&key, next), one_more) in waiting.iter().zip(&mut queues.next).zip(1..) {
             let queue = key::queue(key);
             queues.heads[queue] = queues.heads[queue].min(key);
-            queues.inputs[key::output(key)] |= 1 << key::input(key);
             *next = queues.first[queue];
             queues.first[queue] = one_more;
         }
@@ -41,7 +37,7 @@ impl<'a, const MOST: usize> Queues<'a, MOST> {
 
     /// The oldest cell for the output from one of these inputs.
     fn oldest(&self, output: usize, inputs: u16) -> Key {
-        ports(inputs & self.inputs[output]).fold(NO_CELL, |oldest, input| {
+        ports(inputs).fold(NO_CELL, |oldest, input| {
             oldest.min(self.heads[MOST_PORTS * input + output])
         })
     }
@@ -57,9 +53,6 @@ impl<'a, const MOST: usize> Queues<'a, MOST> {
             one_more = self.next[n];
         }
         self.heads[queue] = oldest;
-        if oldest == NO_CELL {
-            self.inputs[key::output(head)] &= !(1 << key::input(head));
-        }
     }
 
     /// The cells of the match for outputs of one reading, from these inputs; gives the inputs left.
