@@ -1,10 +1,10 @@
 -- A walk over the numbers below n: `over f a n` is f (n-1) (.. (f 0 a)). Every scan, count and round is one, and every law of theirs is by `over-ind`.
 -- Assumes nothing.
-use Prim.Native.Nat.{ℕ, zero, suc, _+_, _<_}
+use Prim.Native.Nat.{ℕ, zero, suc, _+_, _≤_, _<_}
 use mathlib.Core.Path.{_≡_, refl}
 use mathlib.Core.Logic.{⊎-elim}
 use native.Mathlib.Numerals.{add-one}
-use native.Mathlib.Nat.{eq-or-lt-of-le}
+use native.Mathlib.Nat.{add-zero, eq-or-lt-of-le}
 use native.Mathlib.Omega.{arith}
 
 unfoldable pub over : {A : Type 0} → (ℕ → A → A) → A → ℕ → A
@@ -33,3 +33,8 @@ module _ {A : Type 0} (f : ℕ → A → A) (a : A) where
 -- what holds below n and at n holds below n + 1
 pub below-suc : (P : ℕ → Type 0) (n : ℕ) → ((k : ℕ) → k < n → P k) → P n → (k : ℕ) → k < suc n → P k
 below-suc P n h x k l = ⊎-elim (λ (e : k ≡ n). rw e x) (λ m. h k m) (eq-or-lt-of-le {n = k} {m = n} (omega arith))
+
+-- what each of d steps from k on keeps
+pub walk-on : (P : ℕ → Type 0) (k d : ℕ) → ((j : ℕ) → k ≤ j → j < k + d → P j → P (j + 1)) → P k → P (k + d)
+walk-on P k zero s h = rw add-zero h
+walk-on P k (suc d) s h = let e : k + suc d ≡ k + d + 1 = omega arith in rw e (s (k + d) (omega arith) (omega arith) (walk-on P k d (λ j l m. s j l (omega arith)) h))

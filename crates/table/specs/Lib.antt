@@ -1,3 +1,4 @@
 pub mod Table
+pub mod Blocks
 pub mod Reading
 pub mod Marks

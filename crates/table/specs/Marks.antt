@@ -11,13 +11,15 @@ use borrow.Author.Tests.{eqb-true, eqb-false}
 use lib.Dec.{eqb}
 use lib.ListN.{length, getD, set, length-set}
 use lib.Seq.{getD-set-same, getD-set-other}
-use Rattle.laws.specs.Tests.{No, both, refuted, to-no, denied, deny}
+use Rattle.laws.specs.Tests.{No, both, refuted, to-no, denied, deny, fails-left}
 use Rattle.laws.specs.Walk.{below-suc}
 use Rattle.laws.specs.Count.{→every}
+use Rattle.rules.specs.declared.Slot.{Slot}
 use Rattle.rules.specs.declared.Cell.{Cell}
-use Rattle.rules.specs.Cells.{nth, isLive, sameSlot, sameInput, sameEntry, isAlone}
+use Rattle.rules.specs.Cells.{free, nth, isFree, isLive, isBlank, isSound, sameSlot, sameInput, sameEntry, isAlone}
 use Rattle.ports.specs.Ports.{has, Added}
 use Rattle.table.specs.Table.{not-live}
+use Rattle.table.specs.Blocks.{free-not-live}
 
 abbrev rowOf : Cell → ℕ
 rowOf c = c .entered .0 % 1024
@@ -100,3 +102,19 @@ module _ {ms ns : List ℕ} {r : Bool} {c : Cell} (cs : List Cell) (k : ℕ) (s 
       (λ q.
       let t = one-mark ms (nth cs k) (nth cs j) q in
       refuted (s .each j l (t .1)) (sym (t .2) ∙ ap (marked ms) (sym e) ∙ m .fresh h (ap isLive e ∙ t .0)))))
+
+-- a free record is sound and alone, and needs no mark
+module _ (cs : List Cell) (k : ℕ) (e : nth cs k ≡ free) where
+  pub free-sound : (n : ℕ) (t : Slot) → So (isSound n t (nth cs k))
+  unfolding isSound isFree isBlank
+  free-sound n t = ap (isSound n t) e
+
+  pub free-alone : So (isAlone cs k)
+  unfolding isAlone sameEntry
+  free-alone = →every _ k (λ j l. deny _ (ap (λ (c : Cell). sameEntry c (nth cs j)) e ∙ fails-left _ (sameInput (free .input) (nth cs j .input)) (fails-left _ (sameSlot (free .entered) (nth cs j .entered)) (fails-left _ (isLive (nth cs j)) free-not-live))))
+
+  pub seen-free : {ms : List ℕ} → Seen ms cs k → Seen ms cs (k + 1)
+  seen-free {ms} s = record {
+    long = s .long;
+    each = rw (add-one k) (below-suc (λ (j : ℕ). So (isLive (nth cs j)) → So (marked ms (nth cs j))) k (s .each) (λ h. absurd (refuted h (ap isLive e ∙ free-not-live))));
+  }

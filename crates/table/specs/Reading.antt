@@ -12,10 +12,11 @@ use lib.ListN.{length, getD, set, replicate, getD-replicate, List·getD-eq-defau
 use lib.Seq.{ext-getD}
 use borrow.Author.Tests.{eqb-true, eqb-false, eq-eqb, ne-eqb, ltb-true, ltb-false}
 use Rattle.laws.specs.Tests.{No, both, passes, to-no}
-use Rattle.laws.specs.Count.{bit, count, count-zero, count-suc, count-le}
+use Rattle.laws.specs.Count.{bit, count, count-zero, count-suc, count-le, count-no}
 use Rattle.laws.specs.Lists.{tabulate, length-tabulate, getD-tabulate, tabulate-same, tabulate-getD, set-tabulate}
 use Rattle.rules.specs.declared.Cell.{Cell}
-use Rattle.rules.specs.Cells.{mostPorts, outputOf, nth, isReady, sameOutput, isReadyFor}
+use Rattle.table.specs.Blocks.{free-not-ready}
+use Rattle.rules.specs.Cells.{mostPorts, outputOf, free, nth, isReady, sameOutput, isReadyFor}
 use Rattle.rules.specs.Phases.{readyCount, readings}
 
 -- one more for each output that c is ready for
@@ -66,6 +67,11 @@ module _ (cs : List Cell) where
   pub readings-more : (k : ℕ) → bumped (readingsBelow cs k) (nth cs k) ≡ readingsBelow cs (k + 1)
   unfolding bumped readingsBelow
   readings-more k = tabulate-same 0 _ (readyBelow cs (k + 1)) mostPorts (λ o l. rw (at-output k o l, add-one k) (sym (count-suc _ k)))
+
+  -- a free record changes no count
+  pub readings-free : (k : ℕ) → nth cs k ≡ free → readingsBelow cs (k + 1) ≡ readingsBelow cs k
+  unfolding readingsBelow
+  readings-free k e = tabulate-same 0 _ (readyBelow cs k) mostPorts (λ o l. count-no (λ j. isReadyFor (outputOf o) (nth cs j)) k (ap (isReadyFor (outputOf o)) e ∙ free-not-ready (outputOf o)))
 
   pub readings-all : readingsBelow cs (length cs) ≡ readings cs
   unfolding readingsBelow readings readyCount

@@ -13,6 +13,7 @@ ghost use Rattle.rules.specs.Cells.{free, placed, nth, records, isWhole, cellsO
 ghost use Rattle.rules.specs.Answers.{live};
 ghost use Rattle.rules.specs.Phases.{lowestFree, readings, oldestReady};
 ghost use Rattle.table.specs.Table.{Stored, NoneBelow};
+ghost use Rattle.table.specs.Blocks.{OrOf, FreeBlock};
 ghost use Rattle.table.specs.Reading.{bumped};
 ghost use Rattle.table.specs.Marks.{Seen, Marked};
 
@@ -94,6 +95,37 @@ pub fn free_record(table: &mut [u32], k: usize)
     );
 }
 
+// The or of some words: 0 only where every word is.
+fn or_of(words: &[u32]) -> u32
+    ensures { λ r. ⌜ OrOf (now (words .entry)) r ⌝ }
+{
+    let mut all = 0;
+    let mut i = 0;
+    while i < words.len() {
+        all |= words[i];
+        i += 1;
+    }
+    all
+}
+
+// Whether eight free records begin at record k, every eighth record being asked. A pass over the table skips them.
+pub fn is_free_block(table: &[u32], k: usize) -> bool
+    requires { ⌜ k < records (now table) ⌝ }
+    ensures { λ r. ⌜ FreeBlock (now (table .entry)) k r ⌝ }
+{
+    if k % 8 != 0 {
+        return false;
+    }
+    if record_count(table) < k + 8 {
+        return false;
+    }
+    let at = k * 5;
+    if table[at] != 0 {
+        return false;
+    }
+    or_of(&table[at..at + 40]) == 0
+}
+
 // Whether a stands before b by slot and then input.
 pub fn is_older(a: Cell, b: Cell) -> bool
     ensures { λ r. ⌜ r ≡ older a b ⌝ }
@@ -169,6 +201,10 @@ pub fn oldest_ready(table: &[u32], o: Output) -> Found
     let mut found = Found::Nothing;
     let mut k = 0;
     while k < n {
+        if is_free_block(table, k) {
+            k += 8;
+            continue;
+        }
         found = older_of(table, o, found, k);
         k += 1;
     }
@@ -183,6 +219,10 @@ pub fn live(table: &[u32]) -> usize
     let mut cells = 0;
     let mut k = 0;
     while k < n {
+        if is_free_block(table, k) {
+            k += 8;
+            continue;
+        }
         let c = cell_at(table, k);
         if c.place != 0 {
             cells += 1;
@@ -224,6 +264,10 @@ pub fn read(table: &[u32]) -> Reading
     let mut r = Reading { counts: [0; 16] };
     let mut k = 0;
     while k < n {
+        if is_free_block(table, k) {
+            k += 8;
+            continue;
+        }
         let c = cell_at(table, k);
         r = bump(r, c);
         k += 1;
@@ -347,6 +391,10 @@ pub fn fit(table: &[u32], ports: u32, t: Slot) -> bool
     let mut marks = [0u16; 1024];
     let mut k = 0;
     while k < n {
+        if is_free_block(table, k) {
+            k += 8;
+            continue;
+        }
         let c = cell_at(table, k);
         if !is_sound(c, ports, t) {
             return false;

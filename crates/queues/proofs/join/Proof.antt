@@ -1,3 +1,4 @@
+-- A record that does not wait changes nothing; one that does becomes its chain's top, and the head if it is the older.
 use mathlib.Core.Path.{refl}
 use native.Mathlib.Omega.{arith}
 use native.Mathlib.Nat.{le-of-lt}
@@ -8,55 +9,38 @@ use Rattle.queues.specs.Heads.{not-waiting, heads-skip, joins, small-inp
 use borrow.Author.Needs.{needs}
 use Rattle.queues.proofs.join.Statement.{statement}
 use Rattle.queues.proofs.join.Tie as tie
-use Rattle.queues.proofs.join.Reads as reads
-use Rattle.queues.proofs.join.Lts as lts
-use Rattle.queues.proofs.head_of.Reads as head-of-reads
-use Rattle.queues.proofs.link.Reads as link-reads
-use Rattle.queues.proofs.older_of.Reads as older-of-reads
-use Rattle.queues.proofs.pair_of.Reads as pair-of-reads
-use Rattle.queues.proofs.set_head.Reads as set-head-reads
-use Rattle.table.proofs.cell_at.Reads as cell-at-reads
 
--- src/lib.rt:140:9
 cell-at-requires : tie.Need-cell-at-requires
 cell-at-requires c κs = search needs
 
--- src/lib.rt:142:9
 returns : tie.Need-returns
 returns c =
     let p = c .before .before .before .before .before .pre in
     let n = not-waiting (cellsOf (now (c .before .before .before .before .before .args .table))) _ (c .before .before .cell-at .ensures) (c .if1 .taken) in
     (p .1 .1 .1 .0, (chains-skip (p .1 .1 .1 .1 .0) (class-other _ _ n), heads-skip n (p .1 .1 .1 .1 .1)))
 
--- src/lib.rt:146:18
 pair-of-requires : tie.Need-pair-of-requires
 pair-of-requires c κs = let g = joins (now (c .before .before .before .before .before .before .args .table)) (c .before .before .before .before .before .before .args .k) (c .before .before .before .before .before .before .pre) (c .before .before .before .cell-at .ensures) (c .before .if1 .left) in (small-input g, small-output g)
 
--- src/lib.rt:146:5
 link-requires : tie.Need-link-requires
 link-requires c κs = let g = joins (now (c .before .before .before .before .before .before .before .args .table)) (c .before .before .before .before .before .before .before .args .k) (c .before .before .before .before .before .before .before .pre) (c .before .before .before .before .cell-at .ensures) (c .before .before .if1 .left) in (g .long, (small-pair g _ (c .pair-of .ensures) refl, omega (arith, g .inside, g .few)))
 
--- src/lib.rt:147:33
 head-of-requires : tie.Need-head-of-requires
 head-of-requires c κs = let g = joins (now (c .before .before .before .before .before .before .before .before .before .before .before .args .table)) (c .before .before .before .before .before .before .before .before .before .before .before .args .k) (c .before .before .before .before .before .before .before .before .before .before .before .pre) (c .before .before .before .before .before .before .before .before .cell-at .ensures) (c .before .before .before .before .before .before .if1 .left) in (linked-long g _ (c .before .before .before .before .pair-of .ensures) (c .before .before .before .link .ensures), (small-input g, small-output g))
 
--- src/lib.rt:147:9
 older-of-requires : tie.Need-older-of-requires
 older-of-requires c κs =
     let g = joins (now (c .before .before .before .before .before .before .before .before .before .before .before .before .args .table)) (c .before .before .before .before .before .before .before .before .before .before .before .before .args .k) (c .before .before .before .before .before .before .before .before .before .before .before .before .pre) (c .before .before .before .before .before .before .before .before .before .cell-at .ensures) (c .before .before .before .before .before .before .before .if1 .left) in
     (c .before .before .before .before .before .before .before .before .before .before .before .before .pre .0, old-below g _ (c .before .before .before .before .before .pair-of .ensures) (c .before .before .before .before .link .ensures) _ _ (le-of-lt (c .before .before .before .before .before .before .before .before .before .before .before .before .pre .0)) (c .head-of .ensures))
 
--- src/lib.rt:148:5
 set-head-requires : tie.Need-set-head-requires
 set-head-requires c κs =
     let g = joins (now (c .before .before .before .before .before .before .before .before .before .before .before .before .before .before .args .table)) (c .before .before .before .before .before .before .before .before .before .before .before .before .before .before .args .k) (c .before .before .before .before .before .before .before .before .before .before .before .before .before .before .pre) (c .before .before .before .before .before .before .before .before .before .before .before .cell-at .ensures) (c .before .before .before .before .before .before .before .before .before .if1 .left) in
     (linked-long g _ (c .before .before .before .before .before .before .before .pair-of .ensures) (c .before .before .before .before .before .before .link .ensures), (small-input g, (small-output g, new-below g _ (c .before .before .before .before .before .before .before .pair-of .ensures) (c .before .before .before .before .before .before .link .ensures) _ _ (c .before .before .head-of .ensures) (c .before .older-of .ensures))))
 
--- src/lib.rt:129:1
 same-length : tie.Need-same-length
 same-length c = search needs
 
--- src/lib.rt:129:1
 returns-2 : tie.Need-returns-2
 returns-2 c =
     let g = joins (now (c .before .before .before .before .before .before .before .before .before .before .before .before .before .before .before .before .before .args .table)) (c .before .before .before .before .before .before .before .before .before .before .before .before .before .before .before .before .before .args .k) (c .before .before .before .before .before .before .before .before .before .before .before .before .before .before .before .before .before .pre) (c .before .before .before .before .before .before .before .before .before .before .before .before .before .before .cell-at .ensures) (c .before .before .before .before .before .before .before .before .before .before .before .before .if1 .left) in

@@ -1,3 +1,4 @@
+-- Two words are set, one after the other.
 use mathlib.Core.Path.{refl}
 use native.Mathlib.Omega.{arith}
 use native.Mathlib.Numerals.{add-one}
@@ -5,58 +6,43 @@ use lib.ListN.{length-set}
 use borrow.Author.Needs.{needs}
 use Rattle.queues.proofs.link.Statement.{statement}
 use Rattle.queues.proofs.link.Tie as tie
-use Rattle.queues.proofs.link.Reads as reads
-use Rattle.queues.proofs.link.Lts as lts
 
--- src/lib.rt:66:22
 add-top : tie.Need-add-top
 add-top c = search needs
 
--- src/lib.rt:66:15
 mul-top : tie.Need-mul-top
 mul-top c = search needs
 
--- src/lib.rt:66:15
 slice-read-top : tie.Need-slice-read-top
 slice-read-top c = search needs
 
--- src/lib.rt:67:12
 add-queues : tie.Need-add-queues
 add-queues c = search needs
 
--- src/lib.rt:67:5
 mul-queues : tie.Need-mul-queues
 mul-queues c = search needs
 
--- src/lib.rt:67:5
 slice-write-queues : tie.Need-slice-write-queues
 slice-write-queues c = search needs
 
--- src/lib.rt:68:24
 add-queues-2 : tie.Need-add-queues-2
 add-queues-2 c = search needs
 
--- src/lib.rt:68:23
 cast-queues : tie.Need-cast-queues
 cast-queues c = search needs
 
--- src/lib.rt:68:12
 add-queues-3 : tie.Need-add-queues-3
 add-queues-3 c = search needs
 
--- src/lib.rt:68:5
 mul-queues-2 : tie.Need-mul-queues-2
 mul-queues-2 c = search needs
 
--- src/lib.rt:68:5
 slice-write-queues-2 : tie.Need-slice-write-queues-2
 slice-write-queues-2 c = simp length-set (omega arith)
 
--- src/lib.rt:60:1
 same-length : tie.Need-same-length
 same-length c = search needs
 
--- src/lib.rt:60:1
 returns : tie.Need-returns
 returns c = rw add-one refl
 

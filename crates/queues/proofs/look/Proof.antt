@@ -1,3 +1,4 @@
+-- Down the chain: what was found is the oldest of the pair's cells from the record that the word names up.
 use Prim.Native.Nat.{_-_}
 use mathlib.Core.Path.{_≡_}
 use mathlib.Core.Bool.{not, _&&_}
@@ -12,10 +13,6 @@ use Rattle.queues.specs.Queues.{waitsFor, olderAt, But, Queues}
 use Rattle.queues.specs.Chains.{Looked, looked-top, looked-on, looked-all}
 use Rattle.queues.proofs.look.Statement.{statement}
 use Rattle.queues.proofs.look.Tie as tie
-use Rattle.queues.proofs.look.Reads as reads
-use Rattle.queues.proofs.look.Lts as lts
-use Rattle.queues.proofs.older_of.Reads as older-of-reads
-use Rattle.queues.proofs.pair_of.Reads as pair-of-reads
 
 abbrev Inv-loop : tie.InvT-loop
 Inv-loop table queues i o found₀ word₀ found word = (q : Queues (But i o) (cellsOf table) queues) → Looked (q .cl) (cellsOf table) i o word found
@@ -23,61 +20,47 @@ Inv-loop table queues i o found₀ word₀ found word = (q : Queues (But i o) (c
 abbrev μ-loop : tie.MeasureT-loop
 μ-loop table queues i o found₀ word₀ found word = word
 
--- src/lib.rt:107:33
 pair-of-requires : tie.Need-pair-of-requires Inv-loop μ-loop
 pair-of-requires c κs = (c .before .before .pre .1 .0, c .before .before .pre .1 .1 .0)
 
--- src/lib.rt:107:27
 add-word : tie.Need-add-word Inv-loop μ-loop
 add-word c = omega (arith, c .pair-of .ensures)
 
--- src/lib.rt:107:20
 mul-word : tie.Need-mul-word Inv-loop μ-loop
 mul-word c = omega (arith, c .pair-of .ensures)
 
--- src/lib.rt:107:20
 shared-slice-read-word : tie.Need-shared-slice-read-word Inv-loop μ-loop
 shared-slice-read-word c = omega (arith, c .before .pair-of .ensures, (c .before .before .before .before .pre .1 .1 .1) .long)
 
--- src/lib.rt:108:5
 loop-holds : tie.Need-loop-holds Inv-loop μ-loop
 loop-holds c = λ q. rw (c .before .pair-of .ensures) (looked-top q _ _ (c .before .before .before .before .pre .1 .0) (c .before .before .before .before .pre .1 .1 .0))
 
--- src/lib.rt:109:18
 sub-k : tie.Need-sub-k Inv-loop μ-loop
 sub-k c = omega arith
 
--- src/lib.rt:109:17
 cast-k : tie.Need-cast-k Inv-loop μ-loop
 cast-k c = record { fits = omega (arith, c .before .loop .inv (c .before .before .before .before .before .before .pre .1 .1 .1) .within, length-cellsOf (now (c .before .before .before .before .before .before .args .table))) }
 
--- src/lib.rt:110:9
 older-of-requires : tie.Need-older-of-requires Inv-loop μ-loop
 older-of-requires c κs =
     let s = c .before .loop .inv (c .before .before .before .before .before .before .pre .1 .1 .1) in
     (omega (arith, s .within, length-cellsOf (now (c .before .before .before .before .before .before .args .table))), rw (length-cellsOf (now (c .before .before .before .before .before .before .args .table))) at (first-below (λ j. not (ltb j (c .before .loop .word)) && waitsFor (c .before .before .before .before .before .before .args .i) (c .before .before .before .before .before .before .args .o) (nth (cellsOf (now (c .before .before .before .before .before .before .args .table))) j)) (olderAt (cellsOf (now (c .before .before .before .before .before .before .args .table)))) (length (cellsOf (now (c .before .before .before .before .before .before .args .table)))) (c .before .loop .found) (s .first)))
 
--- src/lib.rt:111:23
 add-word-2 : tie.Need-add-word-2 Inv-loop μ-loop
 add-word-2 c = omega (arith, c .before .before .loop .inv (c .before .before .before .before .before .before .before .pre .1 .1 .1) .within, length-cellsOf (now (c .before .before .before .before .before .before .before .args .table)))
 
--- src/lib.rt:111:16
 mul-word-2 : tie.Need-mul-word-2 Inv-loop μ-loop
 mul-word-2 c = omega (arith, c .before .before .loop .inv (c .before .before .before .before .before .before .before .pre .1 .1 .1) .within, length-cellsOf (now (c .before .before .before .before .before .before .before .args .table)))
 
--- src/lib.rt:111:16
 shared-slice-read-word-2 : tie.Need-shared-slice-read-word-2 Inv-loop μ-loop
 shared-slice-read-word-2 c = omega (arith, (c .before .before .before .before .before .before .before .before .pre .1 .1 .1) .long, c .before .before .before .loop .inv (c .before .before .before .before .before .before .before .before .pre .1 .1 .1) .within, length-cellsOf (now (c .before .before .before .before .before .before .before .before .args .table)))
 
--- src/lib.rt:108:5
 loop-less : tie.Need-loop-less Inv-loop μ-loop
 loop-less c = looked-on (c .before .before .before .before .before .before .before .before .pre .1 .1 .1) _ _ (c .before .before .before .before .before .before .before .before .pre .1 .0) (c .before .before .before .before .before .before .before .before .pre .1 .1 .0) (c .before .before .before .loop .word) (c .before .before .before .loop .word - 1) (c .before .before .before .loop .found) (omega (arith, c .before .before .loop-test .taken)) (c .before .before .before .loop .inv (c .before .before .before .before .before .before .before .before .pre .1 .1 .1)) .0
 
--- src/lib.rt:108:5
 loop-again : tie.Need-loop-again Inv-loop μ-loop
 loop-again c = λ q. rw (c .before .older-of .ensures) (looked-on q _ _ (c .before .before .before .before .before .before .before .before .pre .1 .0) (c .before .before .before .before .before .before .before .before .pre .1 .1 .0) (c .before .before .before .loop .word) (c .before .before .before .loop .word - 1) (c .before .before .before .loop .found) (omega (arith, c .before .before .loop-test .taken)) (c .before .before .before .loop .inv q) .1)
 
--- src/lib.rt:99:1
 returns : tie.Need-returns Inv-loop μ-loop
 returns c = let e : c .before .loop .word ≡ 0 = omega arith in looked-all (c .before .before .before .before .before .before .pre .1 .1 .1) _ _ (c .before .before .before .before .before .before .pre .1 .0) (c .before .before .before .before .before .before .pre .1 .1 .0) _ (rw e at (c .before .loop .inv (c .before .before .before .before .before .before .pre .1 .1 .1)))
 

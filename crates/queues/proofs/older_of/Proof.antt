@@ -1,3 +1,4 @@
+-- Whether record k waits, whether one was found before, and which is older: the ways that the comparison goes.
 use mathlib.Core.Path.{refl, sym, ap, ap₂, _∙_}
 use native.Mathlib.Omega.{arith}
 use borrow.Author.Tests.{lt-ltb, le-ltb}
@@ -9,56 +10,40 @@ use Rattle.queues.specs.Heads.{waiting-here, waiting-none, below-at}
 use borrow.Author.Needs.{needs}
 use Rattle.queues.proofs.older_of.Statement.{statement}
 use Rattle.queues.proofs.older_of.Tie as tie
-use Rattle.queues.proofs.older_of.Reads as reads
-use Rattle.queues.proofs.older_of.Lts as lts
-use Rattle.table.proofs.cell_at.Reads as cell-at-reads
-use Rattle.table.proofs.is_older.Reads as is-older-reads
 
--- src/lib.rt:77:9
 cell-at-requires : tie.Need-cell-at-requires
 cell-at-requires c κs = search needs
 
--- src/lib.rt:79:9
 returns : tie.Need-returns
 returns c = sym (ap (firstOf (olderAt (cellsOf (now (c .before .before .before .before .args .table)))) (c .before .before .before .before .args .found)) (waiting-none (cellsOf (now (c .before .before .before .before .args .table))) _ (c .before .before .cell-at .ensures) (c .if1 .taken)) ∙ firstOf-none (olderAt (cellsOf (now (c .before .before .before .before .args .table)))) (c .before .before .before .before .args .found))
 
--- src/lib.rt:81:19
 enum-known-found : tie.Need-enum-known-found
 enum-known-found c = search needs
 
--- src/lib.rt:82:9
 enum-told : tie.Need-enum-told
 enum-told c = search needs
 
--- src/lib.rt:82:9
 returns-2 : tie.Need-returns-2
 returns-2 c = rw (c .enum-told .given .1, waiting-here (cellsOf (now (c .before .before .before .before .before .before .args .table))) _ (c .before .before .before .before .cell-at .ensures) (c .before .before .if1 .left)) refl
 
--- src/lib.rt:84:9
 cell-at-requires-2 : tie.Need-cell-at-requires-2
 cell-at-requires-2 c κs = below-at _ _ _ (c .before .found .given .1) (c .before .before .before .before .before .before .before .pre .1)
 
--- src/lib.rt:85:8
 is-older-requires : tie.Need-is-older-requires
 is-older-requires c κs = search needs
 
--- src/lib.rt:86:9
 returns-3 : tie.Need-returns-3
 returns-3 c = sym (firstOf-second (olderAt (cellsOf (now (c .before .before .before .before .before .before .before .before .before .before .args .table)))) _ _ _ _ (c .before .before .before .before .found .given .1) (waiting-here (cellsOf (now (c .before .before .before .before .before .before .before .before .before .before .args .table))) _ (c .before .before .before .before .before .before .before .before .cell-at .ensures) (c .before .before .before .before .before .before .if1 .left)) (sym (c .before .is-older .ensures ∙ ap₂ older (c .before .before .before .before .before .before .before .before .cell-at .ensures) (c .before .before .cell-at2 .ensures)) ∙ c .if2 .taken))
 
--- src/lib.rt:88:8
 is-older-requires-2 : tie.Need-is-older-requires-2
 is-older-requires-2 c κs = search needs
 
--- src/lib.rt:89:9
 returns-4 : tie.Need-returns-4
 returns-4 c = sym (firstOf-first (olderAt (cellsOf (now (c .before .before .before .before .before .before .before .before .before .before .before .before .args .table)))) _ _ _ _ (c .before .before .before .before .before .before .found .given .1) (waiting-here (cellsOf (now (c .before .before .before .before .before .before .before .before .before .before .before .before .args .table))) _ (c .before .before .before .before .before .before .before .before .before .before .cell-at .ensures) (c .before .before .before .before .before .before .before .before .if1 .left)) (sym (c .before .before .before .is-older .ensures ∙ ap₂ older (c .before .before .before .before .before .before .before .before .before .before .cell-at .ensures) (c .before .before .before .before .cell-at2 .ensures)) ∙ c .before .before .if2 .left) (sym (c .before .is-older2 .ensures ∙ ap₂ older (c .before .before .before .before .cell-at2 .ensures) (c .before .before .before .before .before .before .before .before .before .before .cell-at .ensures)) ∙ c .if3 .taken))
 
--- src/lib.rt:72:1
 returns-5 : tie.Need-returns-5
 returns-5 c = sym (firstOf-tie (olderAt (cellsOf (now (c .before .before .before .before .before .before .before .before .before .before .before .before .before .args .table)))) _ _ _ _ (c .before .before .before .before .before .before .before .found .given .1) (waiting-here (cellsOf (now (c .before .before .before .before .before .before .before .before .before .before .before .before .before .args .table))) _ (c .before .before .before .before .before .before .before .before .before .before .before .cell-at .ensures) (c .before .before .before .before .before .before .before .before .before .if1 .left)) (sym (c .before .before .before .before .is-older .ensures ∙ ap₂ older (c .before .before .before .before .before .before .before .before .before .before .before .cell-at .ensures) (c .before .before .before .before .before .cell-at2 .ensures)) ∙ c .before .before .before .if2 .left) (sym (c .before .before .is-older2 .ensures ∙ ap₂ older (c .before .before .before .before .before .cell-at2 .ensures) (c .before .before .before .before .before .before .before .before .before .before .before .cell-at .ensures)) ∙ c .before .if3 .left) ∙ rw (lt-ltb _ _ (c .if4 .taken)))
 
--- src/lib.rt:72:1
 returns-6 : tie.Need-returns-6
 returns-6 c = sym (firstOf-tie (olderAt (cellsOf (now (c .before .before .before .before .before .before .before .before .before .before .before .before .before .args .table)))) _ _ _ _ (c .before .before .before .before .before .before .before .found .given .1) (waiting-here (cellsOf (now (c .before .before .before .before .before .before .before .before .before .before .before .before .before .args .table))) _ (c .before .before .before .before .before .before .before .before .before .before .before .cell-at .ensures) (c .before .before .before .before .before .before .before .before .before .if1 .left)) (sym (c .before .before .before .before .is-older .ensures ∙ ap₂ older (c .before .before .before .before .before .before .before .before .before .before .before .cell-at .ensures) (c .before .before .before .before .before .cell-at2 .ensures)) ∙ c .before .before .before .if2 .left) (sym (c .before .before .is-older2 .ensures ∙ ap₂ older (c .before .before .before .before .before .cell-at2 .ensures) (c .before .before .before .before .before .before .before .before .before .before .before .cell-at .ensures)) ∙ c .before .if3 .left) ∙ rw (le-ltb _ _ (c .if4 .left)))
 

@@ -1,3 +1,4 @@
+-- One word is the head, the other the set of inputs with this one added, or taken out where there is no head.
 use mathlib.Core.Path.{sym, ap, _∙_}
 use native.Mathlib.Omega.{arith}
 use native.Mathlib.Numerals.{add-one}
@@ -7,65 +8,46 @@ use Rattle.queues.specs.Heads.{taken-out, head-set-at, below-at}
 use borrow.Author.Needs.{needs}
 use Rattle.queues.proofs.set_head.Statement.{statement}
 use Rattle.queues.proofs.set_head.Tie as tie
-use Rattle.queues.proofs.set_head.Reads as reads
-use Rattle.queues.proofs.set_head.Lts as lts
-use Rattle.ports.proofs.except.Reads as except-reads
-use Rattle.ports.proofs.with.Reads as with-reads
-use Rattle.queues.proofs.pair_of.Reads as pair-of-reads
 
--- src/lib.rt:47:9
 pair-of-requires : tie.Need-pair-of-requires
 pair-of-requires c κs = search needs
 
--- src/lib.rt:48:14
 add-at : tie.Need-add-at
 add-at c = search needs
 
--- src/lib.rt:49:18
 mul-inputs : tie.Need-mul-inputs
 mul-inputs c = search needs
 
--- src/lib.rt:49:18
 slice-read-inputs : tie.Need-slice-read-inputs
 slice-read-inputs c = search needs
 
--- src/lib.rt:50:19
 enum-known-found : tie.Need-enum-known-found
 enum-known-found c = search needs
 
--- src/lib.rt:51:9
 enum-told : tie.Need-enum-told
 enum-told c = search needs
 
--- src/lib.rt:51:9
 mul-queues : tie.Need-mul-queues
 mul-queues c = search needs
 
--- src/lib.rt:51:9
 slice-write-queues : tie.Need-slice-write-queues
 slice-write-queues c = search needs
 
--- src/lib.rt:52:44
 with-requires : tie.Need-with-requires
 with-requires c κs = search needs
 
--- src/lib.rt:52:22
 except-requires : tie.Need-except-requires
 except-requires c κs = search needs
 
--- src/lib.rt:52:9
 mul-queues-2 : tie.Need-mul-queues-2
 mul-queues-2 c = search needs
 
--- src/lib.rt:52:9
 slice-write-queues-2 : tie.Need-slice-write-queues-2
 slice-write-queues-2 c = simp length-set (omega arith)
 
--- src/lib.rt:53:9
 same-length : tie.Need-same-length
 same-length c = search needs
 
--- src/lib.rt:53:9
 returns : tie.Need-returns
 returns c =
     let e = c .before .before .enum-told .given .1 in
@@ -73,39 +55,30 @@ returns c =
     let t = taken-out (c .before .with .ensures) (c .except .ensures) in
     head-set-at _ _ _ _ _ (p .0) (p .1 .0) (p .1 .1 .0) (t .0 ∙ sym (ap isFound e)) (t .1) _ _ (c .before .before .before .before .before .pair-of .ensures) (sym (ap nameOf e))
 
--- src/lib.rt:55:21
 add-queues : tie.Need-add-queues
 add-queues c = record { fits = omega (arith, below-at 1024 _ _ (c .before .found .given .1) (c .before .before .before .before .before .before .pre .1 .1 .1)) }
 
--- src/lib.rt:55:20
 cast-queues : tie.Need-cast-queues
 cast-queues c = record { fits = omega (arith, below-at 1024 _ _ (c .before .found .given .1) (c .before .before .before .before .before .before .pre .1 .1 .1)) }
 
--- src/lib.rt:55:5
 mul-queues-3 : tie.Need-mul-queues-3
 mul-queues-3 c = search needs
 
--- src/lib.rt:55:5
 slice-write-queues-3 : tie.Need-slice-write-queues-3
 slice-write-queues-3 c = search needs
 
--- src/lib.rt:56:18
 with-requires-2 : tie.Need-with-requires-2
 with-requires-2 c κs = search needs
 
--- src/lib.rt:56:5
 mul-queues-4 : tie.Need-mul-queues-4
 mul-queues-4 c = search needs
 
--- src/lib.rt:56:5
 slice-write-queues-4 : tie.Need-slice-write-queues-4
 slice-write-queues-4 c = simp length-set (omega arith)
 
--- src/lib.rt:40:1
 same-length-2 : tie.Need-same-length-2
 same-length-2 c = search needs
 
--- src/lib.rt:40:1
 returns-2 : tie.Need-returns-2
 returns-2 c =
     let e = c .before .before .found .given .1 in
