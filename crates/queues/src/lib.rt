@@ -163,10 +163,6 @@ pub fn line_up(table: &[u32], queues: &mut [u16])
     let n = table::record_count(table);
     let mut k = 0;
     while k < n {
-        if table::is_free_block(table, k) {
-            k += 8;
-            continue;
-        }
         join(table, queues, k);
         k += 1;
     }

@@ -12,8 +12,7 @@ use lib.Seq.{getD-take, getD-drop, length-take-le}
 use borrow.Author.Tests.{eqb-true}
 use Rattle.laws.specs.Tests.{No}
 use Rattle.laws.specs.Walk.{walk-on}
-use Rattle.rules.specs.declared.Output.{Output}
-use Rattle.rules.specs.Cells.{free, nth, isFree, isLive, isWaiting, isReady, isReadyFor, width, records, cellAt, cellsOf}
+use Rattle.rules.specs.Cells.{free, nth, isFree, isLive, width, records, cellAt, cellsOf}
 use Rattle.ideal.specs.Words.{nth-cellsOf}
 
 -- an or that is 0
@@ -63,18 +62,9 @@ block-of-part ws k r l o = block-of-zeros ws k (eqb r 0) l (λ h i m. sym (getD-
     long : length (take (k * width + 40 - k * width) (drop (k * width) ws)) ≡ 40
     long = length-take-le (k * width + 40 - k * width) (drop (k * width) ws) (rw (length-drop (k * width) ws) (omega (arith, in-words ws l))) ∙ omega arith
 
--- a free record is neither live, nor waiting, nor ready
 pub free-not-live : No (isLive free)
 unfolding isLive isFree
 free-not-live = refl
-
-pub free-not-waiting : No (isWaiting free)
-unfolding isWaiting
-free-not-waiting = refl
-
-pub free-not-ready : (o : Output) → No (isReadyFor o free)
-unfolding isReadyFor isReady
-free-not-ready o = refl
 
 -- what a free record keeps, a block of them does
 pub over-block : {ws : List ℕ} {k : ℕ} {r : Bool} (P : ℕ → Type 0) → FreeBlock ws k r → So r → ((j : ℕ) → j < records ws → nth (cellsOf ws) j ≡ free → P j → P (j + 1)) → P k → P (k + 8)

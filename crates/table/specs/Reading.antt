@@ -3,7 +3,7 @@
 use Prim.Native.Nat.{ℕ, _+_, _≤_, _<_}
 use mathlib.Core.Path.{_≡_, refl, sym, ap, _∙_}
 use mathlib.Core.Logic.{⊎-elim}
-use mathlib.Core.Bool.{Bool, true, false, cond}
+use mathlib.Core.Bool.{Bool, true, false, cond, _&&_}
 use mathlib.Core.List.{List}
 use native.Mathlib.Omega.{arith}
 use native.Mathlib.Numerals.{add-one}
@@ -12,12 +12,15 @@ use lib.ListN.{length, getD, set, replicate, getD-replicate, List·getD-eq-defau
 use lib.Seq.{ext-getD}
 use borrow.Author.Tests.{eqb-true, eqb-false, eq-eqb, ne-eqb, ltb-true, ltb-false}
 use Rattle.laws.specs.Tests.{No, both, passes, to-no}
-use Rattle.laws.specs.Count.{bit, count, count-zero, count-suc, count-le, count-no}
+use Rattle.laws.specs.Count.{bit, count, count-zero, count-suc, count-le}
 use Rattle.laws.specs.Lists.{tabulate, length-tabulate, getD-tabulate, tabulate-same, tabulate-getD, set-tabulate}
 use Rattle.rules.specs.declared.Cell.{Cell}
-use Rattle.table.specs.Blocks.{free-not-ready}
-use Rattle.rules.specs.Cells.{mostPorts, outputOf, free, nth, isReady, sameOutput, isReadyFor}
+use Rattle.rules.specs.Cells.{mostPorts, outputOf, nth, isReady, sameOutput, isReadyFor}
 use Rattle.rules.specs.Phases.{readyCount, readings}
+
+pub bit-le : (b : Bool) → bit b ≤ 1
+bit-le true = omega arith
+bit-le false = omega arith
 
 -- one more for each output that c is ready for
 unfoldable pub bumped : List ℕ → Cell → List ℕ
@@ -37,14 +40,22 @@ module _ (ns : List ℕ) (e : length ns ≡ mostPorts) (c : Cell) where
   unfolding isReadyFor sameOutput
   no-such-output h = bump-none (λ o l. to-no (λ x. omega (arith, eqb-true (c .output .0) o (both (isReady c) _ x .1))))
 
-  -- a ready cell is one more for its output
-  pub bump-one : c .place ≡ 2 → set ns (c .output .0) (getD ns (c .output .0) 0 + 1) ≡ bumped ns c
-  unfolding bumped isReadyFor isReady sameOutput
-  bump-one r = rw e at (set-tabulate 0 ns (c .output .0) (getD ns (c .output .0) 0 + 1)) ∙ tabulate-same 0 _ _ mostPorts (λ o l. rw (eq-eqb _ _ r) (go o (eqb o (c .output .0)) refl))
+  -- a ready cell is one more for its output, and no other is
+  pub bump-one : set ns (c .output .0) (getD ns (c .output .0) 0 + bit (isReady c)) ≡ bumped ns c
+  unfolding bumped isReadyFor sameOutput
+  bump-one = rw e at (set-tabulate 0 ns (c .output .0) (getD ns (c .output .0) 0 + bit (isReady c))) ∙ tabulate-same 0 _ _ mostPorts (λ o l. go o (eqb o (c .output .0)) refl)
     where
-      go : (o : ℕ) (b : Bool) → eqb o (c .output .0) ≡ b → cond b (getD ns (c .output .0) 0 + 1) (getD ns o 0) ≡ bit (eqb (c .output .0) o) + getD ns o 0
-      go o true q = let h : o ≡ c .output .0 = eqb-true _ _ q in rw (eq-eqb (c .output .0) o (sym h)) (omega (arith, ap (λ (x : ℕ). getD ns x 0) h))
-      go o false q = rw (ne-eqb (c .output .0) o (λ h. eqb-false _ _ q (sym h))) (omega arith)
+      here : (b : Bool) (n m : ℕ) → n ≡ m → n + bit b ≡ bit (b && true) + m
+      here true n m h = omega arith
+      here false n m h = omega arith
+
+      there : (b : Bool) (n : ℕ) → n ≡ bit (b && false) + n
+      there true n = omega arith
+      there false n = omega arith
+
+      go : (o : ℕ) (b : Bool) → eqb o (c .output .0) ≡ b → cond b (getD ns (c .output .0) 0 + bit (isReady c)) (getD ns o 0) ≡ bit (isReady c && eqb (c .output .0) o) + getD ns o 0
+      go o true q = let h : o ≡ c .output .0 = eqb-true _ _ q in rw (eq-eqb (c .output .0) o (sym h)) (here (isReady c) _ _ (ap (λ (x : ℕ). getD ns x 0) (sym h)))
+      go o false q = rw (ne-eqb (c .output .0) o (λ h. eqb-false _ _ q (sym h))) (there (isReady c) (getD ns o 0))
 
 -- the ready cells of output o below record k, and all outputs' counts of them
 abbrev readyBelow : List Cell → ℕ → ℕ → ℕ
@@ -67,11 +78,6 @@ module _ (cs : List Cell) where
   pub readings-more : (k : ℕ) → bumped (readingsBelow cs k) (nth cs k) ≡ readingsBelow cs (k + 1)
   unfolding bumped readingsBelow
   readings-more k = tabulate-same 0 _ (readyBelow cs (k + 1)) mostPorts (λ o l. rw (at-output k o l, add-one k) (sym (count-suc _ k)))
-
-  -- a free record changes no count
-  pub readings-free : (k : ℕ) → nth cs k ≡ free → readingsBelow cs (k + 1) ≡ readingsBelow cs k
-  unfolding readingsBelow
-  readings-free k e = tabulate-same 0 _ (readyBelow cs k) mostPorts (λ o l. count-no (λ j. isReadyFor (outputOf o) (nth cs j)) k (ap (isReadyFor (outputOf o)) e ∙ free-not-ready (outputOf o)))
 
   pub readings-all : readingsBelow cs (length cs) ≡ readings cs
   unfolding readingsBelow readings readyCount

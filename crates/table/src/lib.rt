@@ -9,7 +9,8 @@ ghost use mathlib.Core.Path.{_≡_};
 ghost use Prim.Native.Nat.{_+_, _<_, _≤_};
 ghost use lib.ListN.{length, getD, replicate};
 ghost use Rattle.laws.specs.Least.{Below, sooner};
-ghost use Rattle.rules.specs.Cells.{free, placed, nth, records, isWhole, cellsOf, isReadyFor, isBlank, isSound, sameEntry, isAlone, fit, older, readingFor};
+ghost use Rattle.laws.specs.Count.{bit};
+ghost use Rattle.rules.specs.Cells.{free, placed, nth, records, isWhole, cellsOf, isReady, isReadyFor, isBlank, isSound, sameEntry, isAlone, fit, older, readingFor};
 ghost use Rattle.rules.specs.Answers.{live};
 ghost use Rattle.rules.specs.Phases.{lowestFree, readings, oldestReady};
 ghost use Rattle.table.specs.Table.{Stored, NoneBelow};
@@ -108,14 +109,11 @@ fn or_of(words: &[u32]) -> u32
     all
 }
 
-// Whether eight free records begin at record k, every eighth record being asked. A pass over the table skips them.
-pub fn is_free_block(table: &[u32], k: usize) -> bool
+// Whether eight free records begin at record k, which need no look one by one.
+fn is_free_block(table: &[u32], k: usize) -> bool
     requires { ⌜ k < records (now table) ⌝ }
     ensures { λ r. ⌜ FreeBlock (now (table .entry)) k r ⌝ }
 {
-    if k % 8 != 0 {
-        return false;
-    }
     if record_count(table) < k + 8 {
         return false;
     }
@@ -124,6 +122,17 @@ pub fn is_free_block(table: &[u32], k: usize) -> bool
         return false;
     }
     or_of(&table[at..at + 40]) == 0
+}
+
+// Where the records that are looked at one by one end: eight on, or with the last.
+fn block_end(k: usize, n: usize) -> usize
+    requires { ⌜ k < n ⌝ }
+    ensures { λ r. ⌜ (k < r) × (r ≤ n) ⌝ }
+{
+    if n - k < 8 {
+        return n;
+    }
+    k + 8
 }
 
 // Whether a stands before b by slot and then input.
@@ -201,10 +210,6 @@ pub fn oldest_ready(table: &[u32], o: Output) -> Found
     let mut found = Found::Nothing;
     let mut k = 0;
     while k < n {
-        if is_free_block(table, k) {
-            k += 8;
-            continue;
-        }
         found = older_of(table, o, found, k);
         k += 1;
     }
@@ -219,10 +224,6 @@ pub fn live(table: &[u32]) -> usize
     let mut cells = 0;
     let mut k = 0;
     while k < n {
-        if is_free_block(table, k) {
-            k += 8;
-            continue;
-        }
         let c = cell_at(table, k);
         if c.place != 0 {
             cells += 1;
@@ -237,12 +238,18 @@ pub struct Reading {
     pub counts: [u32; 16],
 }
 
-// One more for the cell's output, where the cell is ready.
+fn one_if_ready(c: Cell) -> u32
+    ensures { λ r. ⌜ r ≡ bit (isReady c) ⌝ }
+{
+    if c.place == 2 { 1 } else { 0 }
+}
+
+// One more for the cell's output, where the cell is ready. Waiting and ready cells are mixed in the table: no branch tells them apart.
 fn bump(r: Reading, c: Cell) -> Reading
     requires { ⌜ getD (r .counts) (c .output .0) 0 < 1024 ⌝ }
     ensures { λ q. ⌜ q .counts ≡ bumped (r .counts) c ⌝ }
 {
-    if c.place != 2 {
+    if c.place == 0 {
         return r;
     }
     let o = c.output.0;
@@ -252,7 +259,7 @@ fn bump(r: Reading, c: Cell) -> Reading
     let at = o as usize;
     let mut next = r;
     let v = next.counts[at];
-    next.counts[at] = v + 1;
+    next.counts[at] = v + one_if_ready(c);
     next
 }
 
@@ -264,10 +271,6 @@ pub fn read(table: &[u32]) -> Reading
     let mut r = Reading { counts: [0; 16] };
     let mut k = 0;
     while k < n {
-        if is_free_block(table, k) {
-            k += 8;
-            continue;
-        }
         let c = cell_at(table, k);
         r = bump(r, c);
         k += 1;
@@ -390,19 +393,22 @@ pub fn fit(table: &[u32], ports: u32, t: Slot) -> bool
     let n = record_count(table);
     let mut marks = [0u16; 1024];
     let mut k = 0;
-    while k < n {
+    'strides: while k < n {
         if is_free_block(table, k) {
             k += 8;
-            continue;
+            continue 'strides;
         }
-        let c = cell_at(table, k);
-        if !is_sound(c, ports, t) {
-            return false;
+        let end = block_end(k, n);
+        'records: while k < end {
+            let c = cell_at(table, k);
+            if !is_sound(c, ports, t) {
+                return false;
+            }
+            if !is_alone_by(table, k, &mut marks) {
+                return false;
+            }
+            k += 1;
         }
-        if !is_alone_by(table, k, &mut marks) {
-            return false;
-        }
-        k += 1;
     }
     true
 }

@@ -1,7 +1,9 @@
--- A cell that is not ready, or for a number that no output has, changes nothing.
+-- A free record, or one for a number that no output has, changes nothing.
 use mathlib.Core.Path.{_≡_}
+use native.Mathlib.Omega.{arith}
 use lib.ListN.{length}
-use Rattle.table.specs.Reading.{not-ready, no-such-output, bump-one}
+use Rattle.rules.specs.Cells.{isReady}
+use Rattle.table.specs.Reading.{bit-le, not-ready, no-such-output, bump-one}
 use borrow.Author.Needs.{needs}
 use Rattle.table.proofs.bump.Statement.{statement}
 use Rattle.table.proofs.bump.Tie as tie
@@ -9,7 +11,7 @@ use Rattle.table.proofs.bump.Tie as tie
 returns : tie.Need-returns
 returns c =
     let e : length (c .before .before .args .r .counts) ≡ 16 = search needs in
-    not-ready _ e _ (c .if1 .taken)
+    not-ready _ e _ (λ r. omega (arith, r, c .if1 .taken))
 
 returns-2 : tie.Need-returns-2
 returns-2 c =
@@ -25,8 +27,11 @@ mul-v c = search needs
 element-copy-out-v : tie.Need-element-copy-out-v
 element-copy-out-v c = search needs
 
+one-if-ready-requires : tie.Need-one-if-ready-requires
+one-if-ready-requires c κs = search needs
+
 add-next : tie.Need-add-next
-add-next c = search needs
+add-next c = record { fits = omega (arith, c .one-if-ready .ensures, bit-le (isReady (c .before .before .before .before .before .args .c)), c .before .before .before .before .before .pre) }
 
 mul-next : tie.Need-mul-next
 mul-next c = search needs
@@ -36,8 +41,8 @@ element-write-next c = search needs
 
 returns-3 : tie.Need-returns-3
 returns-3 c =
-    let e : length (c .before .before .before .before .args .r .counts) ≡ 16 = search needs in
-    bump-one _ e _ (c .before .before .if1 .left)
+    let e : length (c .before .before .before .before .before .args .r .counts) ≡ 16 = search needs in
+    rw (c .one-if-ready .ensures) (bump-one _ e _)
 
 pub bump-spec : {M : Type 1} → statement M
 bump-spec =
@@ -48,6 +53,7 @@ bump-spec =
     cast-at
     mul-v
     element-copy-out-v
+    one-if-ready-requires
     add-next
     mul-next
     element-write-next

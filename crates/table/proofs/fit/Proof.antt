@@ -1,4 +1,4 @@
--- Every record below k is sound and alone, and is marked if it is live.
+-- Every record below k is sound and alone, and is marked if it is live; eight free records are so all at once.
 use Prim.Native.Nat.{ℕ, _≤_, _<_, _-_}
 use mathlib.Core.Path.{_≡_, refl, sym, ap, _∙_}
 use mathlib.Core.Bool.{So, _&&_}
@@ -15,95 +15,119 @@ use Rattle.table.specs.Marks.{Seen, seen-none, free-sound, free-alone, s
 use Rattle.table.proofs.fit.Statement.{statement}
 use Rattle.table.proofs.fit.Tie as tie
 
-abbrev Inv-loop : tie.InvT-loop
-Inv-loop table ports t n marks₀ k₀ marks k = (k ≤ n) × So (every (λ i. isSound ports t (nth (cellsOf table) i) && isAlone (cellsOf table) i) k) × Seen marks (cellsOf table) k
+abbrev Inv-records : tie.InvT-records
+Inv-records table ports t n marks₀ k₀ end marks k = (k ≤ end) × (k₀ ≤ k) × So (every (λ i. isSound ports t (nth (cellsOf table) i) && isAlone (cellsOf table) i) k) × Seen marks (cellsOf table) k
 
-abbrev μ-loop : tie.MeasureT-loop
-μ-loop table ports t n marks₀ k₀ marks k = n - k
+abbrev μ-records : tie.MeasureT-records
+μ-records table ports t n marks₀ k₀ end marks k = end - k
 
-record-count-requires : tie.Need-record-count-requires Inv-loop μ-loop
+abbrev Inv-strides : tie.InvT-strides
+Inv-strides table ports t n marks₀ k₀ marks k = (k ≤ n) × So (every (λ i. isSound ports t (nth (cellsOf table) i) && isAlone (cellsOf table) i) k) × Seen marks (cellsOf table) k
+
+abbrev μ-strides : tie.MeasureT-strides
+μ-strides table ports t n marks₀ k₀ marks k = n - k
+
+record-count-requires : tie.Need-record-count-requires Inv-records μ-records Inv-strides μ-strides
 record-count-requires c κs = tt
 
-loop-holds : tie.Need-loop-holds Inv-loop μ-loop
-loop-holds c = (omega arith, every-none _, seen-none _ _ refl)
+strides-holds : tie.Need-strides-holds Inv-records μ-records Inv-strides μ-strides
+strides-holds c = (omega arith, every-none _, seen-none _ _ refl)
 
-is-free-block-requires : tie.Need-is-free-block-requires Inv-loop μ-loop
+is-free-block-requires : tie.Need-is-free-block-requires Inv-records μ-records Inv-strides μ-strides
 is-free-block-requires c κs = omega arith
 
-add-k : tie.Need-add-k Inv-loop μ-loop
+add-k : tie.Need-add-k Inv-records μ-records Inv-strides μ-strides
 add-k c = omega (arith, c .before .is-free-block .ensures .inside (c .if1 .taken))
 
-loop-less : tie.Need-loop-less Inv-loop μ-loop
-loop-less c = omega arith
+strides-less : tie.Need-strides-less Inv-records μ-records Inv-strides μ-strides
+strides-less c = omega arith
 
--- a block of free records is passed
-loop-again : tie.Need-loop-again Inv-loop μ-loop
-loop-again c =
+strides-again : tie.Need-strides-again Inv-records μ-records Inv-strides μ-strides
+strides-again c =
     let cs = cellsOf (now (c .before .before .before .before .before .before .args .table)) in
-    let i = c .before .before .before .loop .inv in
-    let b = over-block (λ (k : ℕ). So (every (λ i. isSound (c .before .before .before .before .before .before .args .ports) (c .before .before .before .before .before .before .args .t) (nth cs i) && isAlone cs i) k) × Seen (c .before .before .before .loop .marks) cs k) (c .before .is-free-block .ensures) (c .if1 .taken)
-        (λ j l e p. (every-more _ _ (p .0) (join _ _ (free-sound cs j e _ _) (free-alone cs j e)), seen-free cs j e (p .1)))
-        (i .1, i .2) in
+    let i = c .before .before .before .strides .inv in
+    let b = over-block (λ (k : ℕ). So (every (λ i. isSound (c .before .before .before .before .before .before .args .ports) (c .before .before .before .before .before .before .args .t) (nth cs i) && isAlone cs i) k) × Seen (c .before .before .before .strides .marks) cs k) (c .before .is-free-block .ensures) (c .if1 .taken)
+    (λ j l e p. (every-more _ _ (p .0) (join _ _ (free-sound cs j e _ _) (free-alone cs j e)), seen-free cs j e (p .1)))
+    (i .1, i .2) in
     (omega (arith, c .before .is-free-block .ensures .inside (c .if1 .taken)), b .0, b .1)
 
-cell-at-requires : tie.Need-cell-at-requires Inv-loop μ-loop
-cell-at-requires c κs = omega arith
+block-end-requires : tie.Need-block-end-requires Inv-records μ-records Inv-strides μ-strides
+block-end-requires c κs = omega arith
 
-is-sound-requires : tie.Need-is-sound-requires Inv-loop μ-loop
+records-holds : tie.Need-records-holds Inv-records μ-records Inv-strides μ-strides
+records-holds c = let i = c .before .before .before .before .strides .inv in (omega (arith, c .block-end .ensures .0), omega arith, i .1, i .2)
+
+strides-less-2 : tie.Need-strides-less-2 Inv-records μ-records Inv-strides μ-strides
+strides-less-2 c = omega (arith, c .before .before .block-end .ensures .0, c .before .before .block-end .ensures .1)
+
+strides-again-2 : tie.Need-strides-again-2 Inv-records μ-records Inv-strides μ-strides
+strides-again-2 c = let i = c .before .records .inv in (omega (arith, c .before .before .block-end .ensures .1), i .2, i .3)
+
+cell-at-requires : tie.Need-cell-at-requires Inv-records μ-records Inv-strides μ-strides
+cell-at-requires c κs = omega (arith, c .before .before .block-end .ensures .1)
+
+is-sound-requires : tie.Need-is-sound-requires Inv-records μ-records Inv-strides μ-strides
 is-sound-requires c κs = tt
 
-returns : tie.Need-returns Inv-loop μ-loop
+returns : tie.Need-returns Inv-records μ-records Inv-strides μ-strides
 unfolding fit
 returns c =
-    let l : c .before .before .before .before .before .before .loop .k < length (cellsOf (now (c .before .before .before .before .before .before .before .before .before .args .table))) = omega (arith, length-cellsOf (now (c .before .before .before .before .before .before .before .before .before .args .table))) in
+    let l : c .before .before .before .before .records .k < length (cellsOf (now (c .before .before .before .before .before .before .before .before .before .before .before .before .args .table))) = omega (arith, c .before .before .before .before .before .block-end .ensures .1, length-cellsOf (now (c .before .before .before .before .before .before .before .before .before .before .before .before .args .table))) in
     sym (every-broken _ _ _ l (fails-left _ _ (sym (c .before .is-sound .ensures ∙ ap (isSound _ _) (c .before .before .cell-at .ensures)) ∙ not-true _ (c .if2 .taken))))
 
-is-alone-by-requires : tie.Need-is-alone-by-requires Inv-loop μ-loop
-is-alone-by-requires c κs = (omega arith, c .before .before .before .before .before .before .before .loop .inv .2)
+is-alone-by-requires : tie.Need-is-alone-by-requires Inv-records μ-records Inv-strides μ-strides
+is-alone-by-requires c κs = (omega (arith, c .before .before .before .before .before .before .block-end .ensures .1), c .before .before .before .before .before .records .inv .3)
 
-returns-2 : tie.Need-returns-2 Inv-loop μ-loop
+returns-2 : tie.Need-returns-2 Inv-records μ-records Inv-strides μ-strides
 unfolding fit
 returns-2 c =
-    let l : c .before .before .before .before .before .before .before .before .before .loop .k < length (cellsOf (now (c .before .before .before .before .before .before .before .before .before .before .before .before .args .table))) = omega (arith, length-cellsOf (now (c .before .before .before .before .before .before .before .before .before .before .before .before .args .table))) in
+    let l : c .before .before .before .before .before .before .before .records .k < length (cellsOf (now (c .before .before .before .before .before .before .before .before .before .before .before .before .before .before .before .args .table))) = omega (arith, c .before .before .before .before .before .before .records-test .taken, c .before .before .before .before .before .before .before .before .block-end .ensures .1, length-cellsOf (now (c .before .before .before .before .before .before .before .before .before .before .before .before .before .before .before .args .table))) in
     sym (every-broken _ _ _ l (fails-right (isSound _ _ _) _ (sym (c .before .is-alone-by .ensures .0) ∙ not-true _ (c .if3 .taken))))
 
-add-k-2 : tie.Need-add-k-2 Inv-loop μ-loop
-add-k-2 c = omega arith
+add-k-2 : tie.Need-add-k-2 Inv-records μ-records Inv-strides μ-strides
+add-k-2 c = omega (arith, c .before .before .before .before .before .before .records-test .taken, c .before .before .before .before .before .before .before .before .block-end .ensures .1)
 
-loop-less-2 : tie.Need-loop-less-2 Inv-loop μ-loop
-loop-less-2 c = omega arith
+records-less : tie.Need-records-less Inv-records μ-records Inv-strides μ-strides
+records-less c = omega (arith, c .before .before .before .before .before .before .records-test .taken)
 
-loop-again-2 : tie.Need-loop-again-2 Inv-loop μ-loop
-loop-again-2 c = (
-  omega arith,
-  every-more _ _ (c .before .before .before .before .before .before .before .before .before .loop .inv .1) (join _ _ (sym (c .before .before .before .before .is-sound .ensures ∙ ap (isSound _ _) (c .before .before .before .before .before .cell-at .ensures)) ∙ not-false _ (c .before .before .before .if2 .left)) (sym (c .before .is-alone-by .ensures .0) ∙ not-false _ (c .if3 .left))),
+records-again : tie.Need-records-again Inv-records μ-records Inv-strides μ-strides
+records-again c = let i = c .before .before .before .before .before .before .before .records .inv in (
+  omega (arith, c .before .before .before .before .before .before .records-test .taken),
+  omega (arith, i .1),
+  every-more _ _ (i .2) (join _ _ (sym (c .before .before .before .before .is-sound .ensures ∙ ap (isSound _ _) (c .before .before .before .before .before .cell-at .ensures)) ∙ not-false _ (c .before .before .before .if2 .left)) (sym (c .before .is-alone-by .ensures .0) ∙ not-false _ (c .if3 .left))),
   c .before .is-alone-by .ensures .1,
 )
 
-returns-3 : tie.Need-returns-3 Inv-loop μ-loop
+returns-3 : tie.Need-returns-3 Inv-records μ-records Inv-strides μ-strides
 unfolding fit
 returns-3 c =
-    let e : c .before .loop .k ≡ length (cellsOf (now (c .before .before .before .before .args .table))) = omega (arith, length-cellsOf (now (c .before .before .before .before .args .table))) in
-    sym (rw e at (c .before .loop .inv .1))
+    let e : c .before .strides .k ≡ length (cellsOf (now (c .before .before .before .before .args .table))) = omega (arith, length-cellsOf (now (c .before .before .before .before .args .table))) in
+    sym (rw e at (c .before .strides .inv .1))
 
 pub fit-spec : {M : Type 1} → statement M
 fit-spec =
     tie.close
     (tie.spec
-    Inv-loop
-    μ-loop
+    Inv-records
+    μ-records
+    Inv-strides
+    μ-strides
     record-count-requires
-    loop-holds
+    strides-holds
     is-free-block-requires
     add-k
-    loop-less
-    loop-again
+    strides-less
+    strides-again
+    block-end-requires
+    records-holds
+    strides-less-2
+    strides-again-2
     cell-at-requires
     is-sound-requires
     returns
     is-alone-by-requires
     returns-2
     add-k-2
-    loop-less-2
-    loop-again-2
+    records-less
+    records-again
     returns-3)

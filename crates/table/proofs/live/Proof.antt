@@ -10,7 +10,6 @@ use Rattle.rules.specs.Cells.{nth, cellsOf, isLive}
 use Rattle.rules.specs.Answers.{live}
 use Rattle.ideal.specs.Words.{length-cellsOf}
 use Rattle.table.specs.Table.{is-live, not-live}
-use Rattle.table.specs.Blocks.{over-block, free-not-live}
 use Rattle.table.proofs.live.Statement.{statement}
 use Rattle.table.proofs.live.Tie as tie
 
@@ -26,45 +25,27 @@ record-count-requires c κs = tt
 loop-holds : tie.Need-loop-holds Inv-loop μ-loop
 loop-holds c = (omega arith, sym (count-zero _))
 
-is-free-block-requires : tie.Need-is-free-block-requires Inv-loop μ-loop
-is-free-block-requires c κs = omega arith
-
-add-k : tie.Need-add-k Inv-loop μ-loop
-add-k c = omega (arith, c .before .is-free-block .ensures .inside (c .if1 .taken))
-
-loop-less : tie.Need-loop-less Inv-loop μ-loop
-loop-less c = omega arith
-
--- a block of free records is passed
-loop-again : tie.Need-loop-again Inv-loop μ-loop
-loop-again c = (
-  omega (arith, c .before .is-free-block .ensures .inside (c .if1 .taken)),
-  over-block (λ (i : ℕ). c .before .before .before .loop .cells ≡ count (λ j. isLive (nth (cellsOf (now (c .before .before .before .before .before .before .args .table))) j)) i) (c .before .is-free-block .ensures) (c .if1 .taken)
-      (λ j l e p. p ∙ sym (count-no _ j (ap isLive e ∙ free-not-live)))
-      (c .before .before .before .loop .inv .1),
-)
-
 cell-at-requires : tie.Need-cell-at-requires Inv-loop μ-loop
 cell-at-requires c κs = omega arith
 
 add-cells : tie.Need-add-cells Inv-loop μ-loop
 add-cells c =
-    let h : c .before .before .before .before .before .before .loop .cells ≤ c .before .before .before .before .before .before .loop .k = rw (c .before .before .before .before .before .before .loop .inv .1) (count-le _ _) in
+    let h : c .before .before .before .before .loop .cells ≤ c .before .before .before .before .loop .k = rw (c .before .before .before .before .loop .inv .1) (count-le _ _) in
     omega arith
 
-add-k-2 : tie.Need-add-k-2 Inv-loop μ-loop
-add-k-2 c = omega arith
+add-k : tie.Need-add-k Inv-loop μ-loop
+add-k c = omega arith
 
-loop-less-2 : tie.Need-loop-less-2 Inv-loop μ-loop
-loop-less-2 c = omega arith
+loop-less : tie.Need-loop-less Inv-loop μ-loop
+loop-less c = omega arith
 
-loop-again-2 : tie.Need-loop-again-2 Inv-loop μ-loop
-loop-again-2 c = (
+loop-again : tie.Need-loop-again Inv-loop μ-loop
+loop-again c = (
   omega arith,
   ⊎-elim
-      (λ w. w .1 ∙ ap (λ (x : ℕ). x + 1) (c .before .before .before .before .before .before .loop .inv .1) ∙ sym (count-yes _ _ (is-live (c .before .before .cell-at .ensures) (w .0 .taken))))
-      (λ w. w .1 ∙ c .before .before .before .before .before .before .loop .inv .1 ∙ sym (count-no _ _ (not-live (c .before .before .cell-at .ensures) (w .0 .left))))
-      (c .if2 .came),
+      (λ w. w .1 ∙ ap (λ (x : ℕ). x + 1) (c .before .before .before .before .loop .inv .1) ∙ sym (count-yes _ _ (is-live (c .before .before .cell-at .ensures) (w .0 .taken))))
+      (λ w. w .1 ∙ c .before .before .before .before .loop .inv .1 ∙ sym (count-no _ _ (not-live (c .before .before .cell-at .ensures) (w .0 .left))))
+      (c .if1 .came),
 )
 
 returns : tie.Need-returns Inv-loop μ-loop
@@ -81,13 +62,9 @@ live-spec =
     μ-loop
     record-count-requires
     loop-holds
-    is-free-block-requires
+    cell-at-requires
+    add-cells
     add-k
     loop-less
     loop-again
-    cell-at-requires
-    add-cells
-    add-k-2
-    loop-less-2
-    loop-again-2
     returns)

@@ -1,14 +1,13 @@
 -- What was found is the least of the records below k.
-use Prim.Native.Nat.{ℕ, _≤_, _-_}
-use mathlib.Core.Path.{_≡_, sym, ap, _∙_}
+use Prim.Native.Nat.{_≤_, _-_}
+use mathlib.Core.Path.{_≡_, sym}
 use native.Mathlib.Omega.{arith}
 use lib.ListN.{length}
 use denote.Ref.{now}
-use Rattle.laws.specs.Least.{least, least-zero, least-more, least-below, sooner-skip}
+use Rattle.laws.specs.Least.{least, least-zero, least-more, least-below}
 use Rattle.rules.specs.Cells.{nth, cellsOf, isReadyFor, older}
 use Rattle.rules.specs.Phases.{oldestReady}
 use Rattle.ideal.specs.Words.{length-cellsOf}
-use Rattle.table.specs.Blocks.{over-block, free-not-ready}
 use Rattle.table.proofs.oldest_ready.Statement.{statement}
 use Rattle.table.proofs.oldest_ready.Tie as tie
 
@@ -24,35 +23,17 @@ record-count-requires c κs = tt
 loop-holds : tie.Need-loop-holds Inv-loop μ-loop
 loop-holds c = (omega arith, sym (least-zero _ _))
 
-is-free-block-requires : tie.Need-is-free-block-requires Inv-loop μ-loop
-is-free-block-requires c κs = omega arith
+older-of-requires : tie.Need-older-of-requires Inv-loop μ-loop
+older-of-requires c κs = (omega arith, rw (c .before .loop .inv .1) (least-below _ _ _))
 
 add-k : tie.Need-add-k Inv-loop μ-loop
-add-k c = omega (arith, c .before .is-free-block .ensures .inside (c .if1 .taken))
+add-k c = omega arith
 
 loop-less : tie.Need-loop-less Inv-loop μ-loop
 loop-less c = omega arith
 
--- a block of free records is passed
 loop-again : tie.Need-loop-again Inv-loop μ-loop
-loop-again c = (
-  omega (arith, c .before .is-free-block .ensures .inside (c .if1 .taken)),
-  over-block (λ (i : ℕ). c .before .before .before .loop .found ≡ least (λ i. isReadyFor (c .before .before .before .before .before .before .args .o) (nth (cellsOf (now (c .before .before .before .before .before .before .args .table))) i)) (λ i j. older (nth (cellsOf (now (c .before .before .before .before .before .before .args .table))) i) (nth (cellsOf (now (c .before .before .before .before .before .before .args .table))) j)) i) (c .before .is-free-block .ensures) (c .if1 .taken)
-      (λ j l e p. p ∙ sym (least-more _ _ j ∙ sooner-skip _ _ _ _ (ap (isReadyFor _) e ∙ free-not-ready _)))
-      (c .before .before .before .loop .inv .1),
-)
-
-older-of-requires : tie.Need-older-of-requires Inv-loop μ-loop
-older-of-requires c κs = (omega arith, rw (c .before .before .before .loop .inv .1) (least-below _ _ _))
-
-add-k-2 : tie.Need-add-k-2 Inv-loop μ-loop
-add-k-2 c = omega arith
-
-loop-less-2 : tie.Need-loop-less-2 Inv-loop μ-loop
-loop-less-2 c = omega arith
-
-loop-again-2 : tie.Need-loop-again-2 Inv-loop μ-loop
-loop-again-2 c = (omega arith, rw least-more (rw (← c .before .before .before .before .loop .inv .1) (c .older-of .ensures)))
+loop-again c = (omega arith, rw least-more (rw (← c .before .before .loop .inv .1) (c .older-of .ensures)))
 
 returns : tie.Need-returns Inv-loop μ-loop
 unfolding oldestReady
@@ -68,12 +49,8 @@ oldest-ready-spec =
     μ-loop
     record-count-requires
     loop-holds
-    is-free-block-requires
+    older-of-requires
     add-k
     loop-less
     loop-again
-    older-of-requires
-    add-k-2
-    loop-less-2
-    loop-again-2
     returns)

@@ -1,13 +1,12 @@
 -- The counts of the records below k.
-use Prim.Native.Nat.{ℕ, _≤_, _-_}
-use mathlib.Core.Path.{_≡_, sym, ap₂, _∙_}
+use Prim.Native.Nat.{_≤_, _-_}
+use mathlib.Core.Path.{_≡_, ap₂, _∙_}
 use native.Mathlib.Omega.{arith}
 use lib.ListN.{length, getD}
 use denote.Ref.{now}
 use Rattle.rules.specs.Cells.{cellsOf}
 use Rattle.ideal.specs.Words.{length-cellsOf}
-use Rattle.table.specs.Reading.{bumped, readingsBelow, readings-none, readings-more, readings-free, readings-all, readings-le}
-use Rattle.table.specs.Blocks.{over-block}
+use Rattle.table.specs.Reading.{bumped, readingsBelow, readings-none, readings-more, readings-all, readings-le}
 use Rattle.table.proofs.read.Statement.{statement}
 use Rattle.table.proofs.read.Tie as tie
 
@@ -23,41 +22,23 @@ record-count-requires c κs = tt
 loop-holds : tie.Need-loop-holds Inv-loop μ-loop
 loop-holds c = (omega arith, readings-none _)
 
-is-free-block-requires : tie.Need-is-free-block-requires Inv-loop μ-loop
-is-free-block-requires c κs = omega arith
-
-add-k : tie.Need-add-k Inv-loop μ-loop
-add-k c = omega (arith, c .before .is-free-block .ensures .inside (c .if1 .taken))
-
-loop-less : tie.Need-loop-less Inv-loop μ-loop
-loop-less c = omega arith
-
--- a block of free records is passed
-loop-again : tie.Need-loop-again Inv-loop μ-loop
-loop-again c = (
-  omega (arith, c .before .is-free-block .ensures .inside (c .if1 .taken)),
-  over-block (λ (i : ℕ). c .before .before .before .loop .r .counts ≡ readingsBelow (cellsOf (now (c .before .before .before .before .before .before .args .table))) i) (c .before .is-free-block .ensures) (c .if1 .taken)
-      (λ j l e p. p ∙ sym (readings-free _ j e))
-      (c .before .before .before .loop .inv .1),
-)
-
 cell-at-requires : tie.Need-cell-at-requires Inv-loop μ-loop
 cell-at-requires c κs = omega arith
 
 bump-requires : tie.Need-bump-requires Inv-loop μ-loop
 bump-requires c κs =
-    let h : getD (c .before .before .before .before .loop .r .counts) (c .cell-at .result .output .0) 0 ≤ c .before .before .before .before .loop .k
-    = rw (c .before .before .before .before .loop .inv .1) (readings-le _ _ _) in
+    let h : getD (c .before .before .loop .r .counts) (c .cell-at .result .output .0) 0 ≤ c .before .before .loop .k
+    = rw (c .before .before .loop .inv .1) (readings-le _ _ _) in
     omega arith
 
-add-k-2 : tie.Need-add-k-2 Inv-loop μ-loop
-add-k-2 c = omega arith
+add-k : tie.Need-add-k Inv-loop μ-loop
+add-k c = omega arith
 
-loop-less-2 : tie.Need-loop-less-2 Inv-loop μ-loop
-loop-less-2 c = omega arith
+loop-less : tie.Need-loop-less Inv-loop μ-loop
+loop-less c = omega arith
 
-loop-again-2 : tie.Need-loop-again-2 Inv-loop μ-loop
-loop-again-2 c = (omega arith, c .bump .ensures ∙ ap₂ bumped (c .before .before .before .before .before .loop .inv .1) (c .before .cell-at .ensures) ∙ readings-more _ _)
+loop-again : tie.Need-loop-again Inv-loop μ-loop
+loop-again c = (omega arith, c .bump .ensures ∙ ap₂ bumped (c .before .before .before .loop .inv .1) (c .before .cell-at .ensures) ∙ readings-more _ _)
 
 returns : tie.Need-returns Inv-loop μ-loop
 returns c =
@@ -72,13 +53,9 @@ read-spec =
     μ-loop
     record-count-requires
     loop-holds
-    is-free-block-requires
+    cell-at-requires
+    bump-requires
     add-k
     loop-less
     loop-again
-    cell-at-requires
-    bump-requires
-    add-k-2
-    loop-less-2
-    loop-again-2
     returns)
