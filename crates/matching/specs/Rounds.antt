@@ -17,11 +17,11 @@ use Rattle.laws.specs.First.{Ahead, First, firstOf, firstOf-below, first-join, 
 use Rattle.laws.specs.declared.Found.{Found}
 use Rattle.laws.specs.declared.Found.the-variants.{At, Nothing}
 use Rattle.ports.specs.Ports.{has, Added, Removed, Except}
-use Rattle.ports.specs.PortLaws.{has-none, has-all, none-inside, removed-part, removed-out, removed-split, added-split}
+use Rattle.ports.specs.PortLaws.{has-none, none-inside, removed-part, removed-out, removed-split, added-split}
 use Rattle.rules.specs.declared.Cell.{Cell}
 use Rattle.rules.specs.Cells.{nth, outputOf, isWaiting, older, before, readingFor}
 use Rattle.ideal.specs.Cells.{waiting→, older-ranks, before-ranks}
-use Rattle.queues.specs.Queues.{pair, named, named-name, isFound, headWord, senders, waitsFor, waits→, →waits, olderAt, headBelow, headOf, Ports, All, Queues}
+use Rattle.queues.specs.Queues.{pair, named, named-name, isFound, headWord, senders, wanted, waitsFor, waits→, →waits, olderAt, headBelow, headOf, Ports, All, Queues}
 use Rattle.queues.specs.Heads.{head-below}
 use Rattle.matching.specs.Picking.{candidate, firstCandidate, InPorts}
 
@@ -123,6 +123,16 @@ module _ {cs : List Cell} {qs : List ℕ} (q : Queues All cs qs) where
   sent : (i o : ℕ) → i < 16 → o < 16 → So (has (senders qs o) i) → (k : ℕ) × (k < length cs) × So (waitsFor i o (nth cs k))
   sent i o l m h = head-found [] cs i o (headOf cs i o) (head-first [] cs i o) (sym (q .heads .sends i o l m tt) ∙ h)
 
+  -- an output that can be served is wanted
+  pub wants : (o : ℕ) (ins : ℕ → Bool) → So (isServable ins o cs) → So (has (wanted qs) o)
+  unfolding isServable
+  wants o ins h =
+      let k = any→ (λ k. waitsOn ins o (nth cs k)) (length cs) h in
+      let w = waitsOn→ ins o (nth cs (k .0)) (k .2) in
+      let i : ℕ = nth cs (k .0) .input .0 in
+      q .heads .wants i o (q .ports .inputs (k .0) (k .1) (w .0)) (subst (λ (p : ℕ). p < 16) (w .2) (q .ports .outputs (k .0) (k .1) (w .0))) tt
+      (found-head [] cs i o (headOf cs i o) (head-first [] cs i o) (k .0) (k .1) (→waits i o (nth cs (k .0)) (w .0) refl (w .2)))
+
   -- Whether an output can be served ---------------------------------------------------------------------
 
   module _ (ins o left : ℕ) (m : o < 16) (e : Except (senders qs o) ins left) where
@@ -212,16 +222,16 @@ abbrev pub Lowered : ℕ → ℕ → ℕ → ℕ → ℕ → ℕ → Type 0
 Lowered x o s low t lower = (((s ≡ 0) ⊎ (x < low)) × Added 0 o t × (lower ≡ x)) ⊎ (((x ≡ low) × Added s o t × (lower ≡ low)) ⊎ ((low < x) × ((p : ℕ) × So (has s p)) × (t ≡ s) × (lower ≡ low)))
 
 module _ {r : List ℕ} {ins outs : ℕ → Bool} {cs : List Cell} where
-  pub low-none : {taken left : ℕ} → ((q : ℕ) → has taken q ≡ outs q) → Except 65535 taken left → (low : ℕ) → Low r ins outs cs left 0 low
-  low-none {taken} {left} same e low = record {
-    part = λ o h. sym (same o) ∙ denied _ (both (has 65535 o) _ (sym (e .each o) ∙ h) .1);
+  pub low-none : {qs : List ℕ} {taken left : ℕ} → Queues All cs qs → ((q : ℕ) → has taken q ≡ outs q) → Except (wanted qs) taken left → (low : ℕ) → Low r ins outs cs left 0 low
+  low-none {qs} {taken} {left} q same e low = record {
+    part = λ o h. sym (same o) ∙ denied _ (both (has (wanted qs) o) _ (sym (e .each o) ∙ h) .1);
     inside = λ o h. absurd (refuted h (has-none o));
-    beyond = λ o l n m. absurd (refuted (there o l n) m);
-    some = λ o l n m. absurd (refuted (there o l n) m);
+    beyond = λ o l n m w. absurd (refuted (there o n w) m);
+    some = λ o l n m w. absurd (refuted (there o n w) m);
   }
     where
-      there : (o : ℕ) → o < 16 → No (outs o) → So (has left o)
-      there o l n = e .each o ∙ join _ _ (has-all o l) (deny _ (same o ∙ n))
+      there : (o : ℕ) → No (outs o) → So (isServable ins o cs) → So (has left o)
+      there o n w = e .each o ∙ join _ _ (wants q o ins w) (deny _ (same o ∙ n))
 
   module _ {left s low : ℕ} (h : Low r ins outs cs left s low) (o : ℕ) (x : So (has left o)) {rest : ℕ} (d : Removed left o rest) where
     -- it cannot be served

@@ -132,7 +132,7 @@ fn lowest_readings(table: &[u32], queues: &[u16], r: Reading, taken: Taken) -> u
         outputs: 0,
         reading: 0,
     };
-    let mut left = ports::except(65535, taken.outputs);
+    let mut left = ports::except(queues::wanted_outputs(queues), taken.outputs);
     while left != 0 {
         let o = ports::lowest(left);
         left = ports::without(left, o);
@@ -291,7 +291,7 @@ pub fn transfers(table: &mut [u32], matches: &mut [u32], r: Reading, ports: u32,
     ensures { λ _. ⌜ cellsOf (now (table .exit)) ≡ phases ports (r .counts) (cellsOf (now (table .entry))) speedup ⌝ }
     ensures { λ _. ⌜ now (matches .exit) ≡ matchesOf ports (r .counts) (cellsOf (now (table .entry))) speedup ⌝ }
 {
-    let mut queues = [0u16; 1552];
+    let mut queues = [0u16; 1553];
     queues::line_up(table, &mut queues);
     run_phases(table, &mut queues, matches, r, ports, speedup);
 }

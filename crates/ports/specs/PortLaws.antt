@@ -10,7 +10,7 @@ use native.Mathlib.Omega.{arith}
 use borrow.Author.Tests.{eqb-true, eqb-false}
 use lib.Dec.{eqb}
 use lib.Arith.{digits-mod, lt-one}
-use lib.Pow.{shr-shr, pow-lt, pow-pos}
+use lib.Pow.{shr-shr, pow-lt}
 use lib.Bits.{bitOr, or-step, or-shr, or-zero-r, bitAnd, and-mask, and-step, and-shr, bitXor, differ, xor-step, xor-shr}
 use lib.Count.{ones, ones-step, trailingZeros, under}
 use Rattle.laws.specs.Tests.{No, passes, refuted, to-no}
@@ -193,17 +193,6 @@ except-by-digits m k = record { each = λ q. ap (λ (d : ℕ). eqb d 1) (except-
         (digit-cases (λ (e : ℕ). eqb (min 0 e) 1 ≡ false) refl refl)
         (digit-cases (λ (e : ℕ). eqb (differ 1 (min 1 e)) 1 ≡ not (eqb e 1)) refl refl)
 
--- all ports
-pub has-all : (q : ℕ) → q < 16 → So (has 65535 q)
-has-all q l = of-one 65535 q (every 16 q l)
-  where
-    every : (k q : ℕ) → q < k → digit (2 ^ k - 1) q ≡ 1
-    every zero q h = absurd (omega arith)
-    every (suc k) zero h = digit-zero (2 ^ suc k - 1) ∙ omega (arith, pow-suc 2 k, pow-pos k)
-    every (suc k) (suc q) h =
-        let e : (2 ^ suc k - 1) / 2 ≡ 2 ^ k - 1 = omega (arith, pow-suc 2 k, pow-pos k) in
-        digit-suc (2 ^ suc k - 1) q ∙ ap (λ (x : ℕ). digit x q) e ∙ every k q (omega arith)
-
 -- How many -------------------------------------------------------------------------------------
 
 count-low : (n m : ℕ) → count (has m) (suc n) ≡ m % 2 + count (has (m / 2)) n
@@ -296,6 +285,9 @@ module _ {m p r : ℕ} (d : Removed m p r) where
 
   pub removed-split : (q : ℕ) → No (has r q) → (q ≡ p) ⊎ No (has m q)
   removed-split q n = ⊎-elim (λ x. inl (eqb-true q p x)) (λ x. inr (sym (d .others q (eqb-false q p x)) ∙ n)) (passes (eqb q p))
+
+pub added-kept : {m p r : ℕ} → Added m p r → (q : ℕ) → So (has m q) → So (has r q)
+added-kept {m} {p} {r} d q h = ⊎-elim (λ x. ap (has r) (eqb-true q p x) ∙ d .inside) (λ x. d .others q (eqb-false q p x) ∙ h) (passes (eqb q p))
 
 -- of a set with one added, a member is that one or was in
 pub added-split : {m p r : ℕ} → Added m p r → (q : ℕ) → So (has r q) → (q ≡ p) ⊎ So (has m q)

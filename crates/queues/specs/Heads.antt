@@ -3,14 +3,14 @@
 use Prim.Native.Nat.{ℕ, zero, suc, _+_, _*_, _<_, _≤_}
 use mathlib.Core.Path.{_≡_, refl, sym, ap, _∙_, subst}
 use mathlib.Core.Logic.{_⊎_, inl, inr, ⊎-elim}
-use mathlib.Core.Bool.{Bool, So, true, false, not, cond, _&&_, and-true}
+use mathlib.Core.Bool.{Bool, So, true, false, not, cond, _&&_, and-true, false≢true}
 use mathlib.Core.List.{List}
 use native.Mathlib.Omega.{arith}
 use native.Mathlib.Numerals.{add-one}
 use borrow.Author.Tests.{eqb-true, eqb-false, eq-eqb, ne-eqb}
 use lib.Dec.{eqb}
 use lib.ListN.{length, getD, set, length-set, replicate, getD-replicate, length-replicate}
-use lib.Seq.{getD-set-same, getD-set-other}
+use lib.Seq.{getD-set-same, getD-set-other, set-getD}
 use Rattle.laws.specs.Tests.{No, passes, refuted, to-no, fails-right, same-test, cond-true, cond-false}
 use Rattle.laws.specs.Least.{least, least-zero, least-more, least-below, least-same, Below, sooner, sooner-skip}
 use Rattle.laws.specs.First.{firstOf, firstOf-sooner, firstOf-below}
@@ -22,7 +22,7 @@ use Rattle.rules.specs.declared.Cell.{Cell}
 use Rattle.rules.specs.Cells.{free, nth, placed, isWaiting, records, cellsOf}
 use Rattle.ideal.specs.Cells.{Same, older-same}
 use Rattle.ideal.specs.Words.{length-cellsOf}
-use Rattle.queues.specs.Queues.{pair, pairOf, named, nameOf, named-name, isFound, queueWords, headWord, topWord, nextWord, senders, olderAt, waitsFor, waits→, →waits, headBelow, headOf, Chains, Heads, All, But, Ports, Queues, waitingAt, classOf, HeadSet}
+use Rattle.queues.specs.Queues.{pair, pairOf, named, nameOf, named-name, isFound, queueWords, headWord, topWord, nextWord, senders, wanted, olderAt, waitsFor, waits→, →waits, headBelow, headOf, Chains, Heads, All, But, Ports, Queues, waitingAt, classOf, HeadSet}
 use Rattle.queues.specs.Chains.{chains-kept, chains-link, class-waiting}
 
 -- A new head ----------------------------------------------------------------------------------
@@ -34,41 +34,70 @@ taken-out {s} {i} {w} {m} d e = (
   λ a n. e .each a ∙ ap (λ (b : Bool). has s a && not b) (d .others a n ∙ has-none a) ∙ and-true (has s a),
 )
 
-module _ (qs : List ℕ) (i o : ℕ) (x : Found) (m : ℕ) (long : length qs ≡ queueWords) (small : i < 16) (less : o < 16) (here : has m i ≡ isFound x) (there : (a : ℕ) → (a ≡ i → ⊥) → has m a ≡ has (senders qs o) a) where
+module _ (qs : List ℕ) (i o : ℕ) (x : Found) (m w : ℕ) (long : length qs ≡ queueWords) (small : i < 16) (less : o < 16) (here : has m i ≡ isFound x) (there : (a : ℕ) → (a ≡ i → ⊥) → has m a ≡ has (senders qs o) a) (want : So (isFound x) → So (has w o)) (keep : (b : ℕ) → So (has (wanted qs) b) → So (has w b)) where
   one : List ℕ
   one = set qs (pair i o) (nameOf x)
 
+  two : List ℕ
+  two = set one (1536 + o) m
+
+  all : List ℕ
+  all = set two 1552 w
+
+  long-one : length one ≡ queueWords
+  unfolding one
+  long-one = length-set qs (pair i o) (nameOf x) ∙ long
+
+  long-two : length two ≡ queueWords
+  unfolding two
+  long-two = length-set one (1536 + o) m ∙ long-one
+
   -- another word
-  else : (j : ℕ) → (j ≡ pair i o → ⊥) → (j ≡ 1536 + o → ⊥) → getD (set one (1536 + o) m) j 0 ≡ getD qs j 0
-  unfolding one
-  else j a b = getD-set-other one (1536 + o) j m 0 b ∙ getD-set-other qs (pair i o) j (nameOf x) 0 a
+  else : (j : ℕ) → (j ≡ pair i o → ⊥) → (j ≡ 1536 + o → ⊥) → (j ≡ 1552 → ⊥) → getD all j 0 ≡ getD qs j 0
+  unfolding one two all
+  else j a b c = getD-set-other two 1552 j w 0 c ∙ getD-set-other one (1536 + o) j m 0 b ∙ getD-set-other qs (pair i o) j (nameOf x) 0 a
 
-  at-head : getD (set one (1536 + o) m) (pair i o) 0 ≡ nameOf x
-  unfolding one
-  at-head = getD-set-other one (1536 + o) (pair i o) m 0 (omega arith) ∙ getD-set-same qs (pair i o) (nameOf x) 0 (omega arith)
+  at-head : getD all (pair i o) 0 ≡ nameOf x
+  unfolding one two all
+  at-head = getD-set-other two 1552 (pair i o) w 0 (omega arith) ∙ getD-set-other one (1536 + o) (pair i o) m 0 (omega arith) ∙ getD-set-same qs (pair i o) (nameOf x) 0 (omega arith)
 
-  at-set : getD (set one (1536 + o) m) (1536 + o) 0 ≡ m
-  unfolding one
-  at-set = getD-set-same one (1536 + o) m 0 (rw (length-set qs (pair i o) (nameOf x)) (omega arith))
+  at-set : getD all (1536 + o) 0 ≡ m
+  unfolding two all
+  at-set = getD-set-other two 1552 (1536 + o) w 0 (omega arith) ∙ getD-set-same one (1536 + o) m 0 (omega (arith, long-one))
 
-  pub head-set : HeadSet qs i o x (set (set qs (pair i o) (nameOf x)) (1536 + o) m)
-  unfolding one
+  at-last : getD all 1552 0 ≡ w
+  unfolding all
+  at-last = getD-set-same two 1552 w 0 (omega (arith, long-two))
+
+  head-set : HeadSet qs i o x (set (set (set qs (pair i o) (nameOf x)) (1536 + o) m) 1552 w)
+  unfolding one two all
   head-set = record {
-    long = length-set one (1536 + o) m ∙ length-set qs (pair i o) (nameOf x);
+    long = length-set two 1552 w ∙ long-two ∙ sym long;
     head = at-head;
-    sends = ap (λ (w : ℕ). has w i) at-set ∙ here;
-    heads = λ a b l k ne. else (pair a b) ne (omega arith);
-    others = λ a b l k ne. ⊎-elim (λ e. same a b ne (eqb-true b o e)) (λ e. let n = eqb-false b o e in ap (λ (w : ℕ). has w a) (else (1536 + b) (omega arith) (λ v. n (omega arith)))) (passes (eqb b o));
-    top = λ p l. else (256 + p) (omega arith) (omega arith);
-    next = λ k l. else (512 + k) (omega arith) (omega arith);
+    sends = ap (λ (v : ℕ). has v i) at-set ∙ here;
+    heads = λ a b l k ne. else (pair a b) ne (omega arith) (omega arith);
+    others = λ a b l k ne. ⊎-elim (λ e. same a b ne (eqb-true b o e)) (λ e. let n = eqb-false b o e in ap (λ (v : ℕ). has v a) (else (1536 + b) (omega arith) (λ v. n (omega arith)) (omega arith))) (passes (eqb b o));
+    wants = λ f. ap (λ (v : ℕ). has v o) at-last ∙ want f;
+    kept = λ b h. ap (λ (v : ℕ). has v b) at-last ∙ keep b h;
+    top = λ p l. else (256 + p) (omega arith) (omega arith) (omega arith);
+    next = λ k l. else (512 + k) (omega arith) (omega arith) (omega arith);
   }
     where
-      same : (a b : ℕ) → But i o a b → b ≡ o → has (senders (set one (1536 + o) m) b) a ≡ has (senders qs b) a
-      same a b ne e = rw e (ap (λ (w : ℕ). has w a) at-set ∙ there a (λ v. ne (omega (arith, v, e))))
+      same : (a b : ℕ) → But i o a b → b ≡ o → has (senders all b) a ≡ has (senders qs b) a
+      same a b ne e = rw e (ap (λ (v : ℕ). has v a) at-set ∙ there a (λ v. ne (omega (arith, v, e))))
 
   -- the same, in the words of the code
-  pub head-set-at : (p h : ℕ) → p ≡ pair i o → h ≡ nameOf x → HeadSet qs i o x (set (set qs p h) (1536 + o) m)
+  pub head-set-at : (p h : ℕ) → p ≡ pair i o → h ≡ nameOf x → HeadSet qs i o x (set (set (set qs p h) (1536 + o) m) 1552 w)
   head-set-at p h e q = rw (e, q) head-set
+
+-- where there is no head, the last word stays
+pub head-unset : (qs : List ℕ) (i o m : ℕ) (x : Found) → length qs ≡ queueWords → i < 16 → o < 16 → x ≡ Nothing → No (has m i) → ((a : ℕ) → (a ≡ i → ⊥) → has m a ≡ has (senders qs o) a)
+    → (p h : ℕ) → p ≡ pair i o → h ≡ nameOf x → HeadSet qs i o x (set (set qs p h) (1536 + o) m)
+head-unset qs i o m x long small less none here there p h e q =
+    let ms : List ℕ = set (set qs p h) (1536 + o) m in
+    let w : getD ms 1552 0 ≡ wanted qs = getD-set-other (set qs p h) (1536 + o) 1552 m 0 (omega arith) ∙ getD-set-other qs p 1552 h 0 (omega (arith, e)) in
+    rw (set-getD ms 1552 0) at
+    (head-set-at qs i o x m (getD ms 1552 0) long small less (here ∙ sym (ap isFound none)) there (λ f. absurd (false≢true (sym (ap isFound none) ∙ f))) (λ b d. ap (λ (v : ℕ). has v b) w ∙ d) p h e q)
 
 same-pair : (x y i o : ℕ) → y < 16 → o < 16 → pair x y ≡ pair i o → (x ≡ i) × (y ≡ o)
 same-pair x y i o m l t = (omega arith, omega arith)
@@ -80,6 +109,7 @@ unfolding headBelow
 no-heads cs = record {
   head = λ i o l k z. zeros (pair i o) (omega arith) ∙ sym (ap nameOf (least-zero _ _));
   sends = λ i o l k z. ap (λ (w : ℕ). has w i) (zeros (1536 + o) (omega arith)) ∙ has-none i ∙ sym (ap isFound (least-zero _ _));
+  wants = λ i o l k z h. absurd (false≢true (sym (ap isFound (least-zero _ _)) ∙ h));
 }
   where
     zeros : (i : ℕ) → i < queueWords → _≡_ {A = ℕ} (getD (replicate queueWords 0) i 0) 0
@@ -104,6 +134,7 @@ pub heads-skip : {cs : List Cell} {k : ℕ} {qs : List ℕ} → No (isWaiting (n
 heads-skip {cs} {k} n h = record {
   head = λ i o l m z. h .head i o l m z ∙ sym (ap nameOf (head-skip cs k i o (out i o)));
   sends = λ i o l m z. h .sends i o l m z ∙ sym (ap isFound (head-skip cs k i o (out i o)));
+  wants = λ i o l m z f. h .wants i o l m z (sym (ap isFound (head-skip cs k i o (out i o))) ∙ f);
 }
   where
     out : (i o : ℕ) → No (waitsFor i o (nth cs k))
@@ -118,11 +149,12 @@ module _ {cs : List Cell} {k : ℕ} {qs : List ℕ} (i o : ℕ) (small : i < 16)
       ∙ ap (λ (v : Bool). firstOf (olderAt cs) (headBelow cs k i o) (cond v (At k) Nothing)) w
       ∙ sym (head-join cs k i o (→waits i o (nth cs k) w a b))
 
-  pub heads-join : {ms ns : List ℕ} → ((j : ℕ) → j < 256 → getD ms j 0 ≡ getD qs j 0) → ((q : ℕ) → q < 16 → senders ms q ≡ senders qs q)
+  pub heads-join : {ms ns : List ℕ} → ((j : ℕ) → j < 256 → getD ms j 0 ≡ getD qs j 0) → ((q : ℕ) → q < 16 → senders ms q ≡ senders qs q) → wanted ms ≡ wanted qs
       → HeadSet ms i o (firstOf (olderAt cs) (named (headWord ms i o)) (waitingAt cs k)) ns → Heads All cs (k + 1) ns
-  heads-join {ms} {ns} e f s = record {
+  heads-join {ms} {ns} e f g s = record {
     head = λ x y l m z. ⊎-elim (λ t. at-pair x y l m (eqb-true (pair x y) (pair i o) t)) (λ t. let n = eqb-false (pair x y) (pair i o) t in s .heads x y l m n ∙ e (pair x y) (omega arith) ∙ h .head x y l m z ∙ sym (ap nameOf (head-skip cs k x y (out x y n)))) (passes (eqb (pair x y) (pair i o)));
     sends = λ x y l m z. ⊎-elim (λ t. at-sends x y l m (eqb-true (pair x y) (pair i o) t)) (λ t. let n = eqb-false (pair x y) (pair i o) t in s .others x y l m n ∙ ap (λ (v : ℕ). has v x) (f y m) ∙ h .sends x y l m z ∙ sym (ap isFound (head-skip cs k x y (out x y n)))) (passes (eqb (pair x y) (pair i o)));
+    wants = λ x y l m z d. ⊎-elim (λ t. at-wants x y l m (eqb-true (pair x y) (pair i o) t) d) (λ t. let n = eqb-false (pair x y) (pair i o) t in s .kept y (ap (λ (v : ℕ). has v y) g ∙ h .wants x y l m z (sym (ap isFound (head-skip cs k x y (out x y n))) ∙ d))) (passes (eqb (pair x y) (pair i o)));
   }
     where
       out : (x y : ℕ) → (pair x y ≡ pair i o → ⊥) → No (waitsFor x y (nth cs k))
@@ -133,6 +165,9 @@ module _ {cs : List Cell} {k : ℕ} {qs : List ℕ} (i o : ℕ) (small : i < 16)
 
       at-pair : (x y : ℕ) → x < 16 → y < 16 → pair x y ≡ pair i o → headWord ns x y ≡ nameOf (headBelow cs (k + 1) x y)
       at-pair x y l m t = let u = same-pair x y i o m less t in rw (u .0, u .1) (s .head ∙ ap nameOf joined)
+
+      at-wants : (x y : ℕ) → x < 16 → y < 16 → pair x y ≡ pair i o → So (isFound (headBelow cs (k + 1) x y)) → So (has (wanted ns) y)
+      at-wants x y l m t d = let u = same-pair x y i o m less t in rw (u .1) (s .wants (ap isFound joined ∙ (rw (u .0, u .1) at d)))
 
       at-sends : (x y : ℕ) → x < 16 → y < 16 → pair x y ≡ pair i o → has (senders ns y) x ≡ isFound (headBelow cs (k + 1) x y)
       at-sends x y l m t = let u = same-pair x y i o m less t in rw (u .0, u .1) (s .sends ∙ ap isFound joined)
@@ -241,7 +276,7 @@ module _ {cs : List Cell} {k : ℕ} {qs : List ℕ} {c : Cell} (g : Joins cs k q
         chains-kept {qs = ms} (let v = g .inside in omega (arith, g .few)) (s .top) (s .next)
             (rw link (chains-link (g .chains) (g .long) p small-pair (let v = g .inside in omega (arith, g .few)) (class-waiting cs k waits-here ∙ ap pairOf (sym (g .read)) ∙ sym at))),
         heads-join (c .input .0) (c .output .0) small-input small-output (g .heads) waits-here (ap (λ (d : Cell). d .input .0) (sym (g .read))) (ap (λ (d : Cell). d .output .0) (sym (g .read)))
-            (λ j m. apart j (omega arith) (omega arith)) (λ b m. apart (1536 + b) (let v = g .inside in omega (arith, g .few)) (let v = small-pair in omega arith)) (rw q at s),
+            (λ j m. apart j (omega arith) (omega arith)) (λ b m. apart (1536 + b) (let v = g .inside in omega (arith, g .few)) (let v = small-pair in omega arith)) (apart 1552 (let v = g .inside in omega (arith, g .few)) (let v = small-pair in omega arith)) (rw q at s),
       ),
     )
 
@@ -261,6 +296,7 @@ queues-renew {cs} {qs} {ns} i o small less few q s = record {
   heads = record {
     head = λ x y l m z. ⊎-elim (λ t. let u = same-pair x y i o m less (eqb-true (pair x y) (pair i o) t) in rw (u .0, u .1) (s .head)) (λ t. let n = eqb-false (pair x y) (pair i o) t in s .heads x y l m n ∙ q .heads .head x y l m n) (passes (eqb (pair x y) (pair i o)));
     sends = λ x y l m z. ⊎-elim (λ t. let u = same-pair x y i o m less (eqb-true (pair x y) (pair i o) t) in rw (u .0, u .1) (s .sends)) (λ t. let n = eqb-false (pair x y) (pair i o) t in s .others x y l m n ∙ q .heads .sends x y l m n) (passes (eqb (pair x y) (pair i o)));
+    wants = λ x y l m z d. ⊎-elim (λ t. let u = same-pair x y i o m less (eqb-true (pair x y) (pair i o) t) in rw (u .1) (s .wants (rw (u .0, u .1) at d))) (λ t. let n = eqb-false (pair x y) (pair i o) t in s .kept y (q .heads .wants x y l m n d)) (passes (eqb (pair x y) (pair i o)));
   };
 }
 
@@ -326,5 +362,6 @@ module _ {cs : List Cell} {qs : List ℕ} (q : Queues All cs qs) (k : ℕ) (l : 
     heads = record {
       head = λ i o a b ne. q .heads .head i o a b tt ∙ ap nameOf (sym (head-stays i o ne));
       sends = λ i o a b ne. q .heads .sends i o a b tt ∙ ap isFound (sym (head-stays i o ne));
+      wants = λ i o a b ne f. q .heads .wants i o a b tt (ap isFound (sym (head-stays i o ne)) ∙ f);
     };
   }

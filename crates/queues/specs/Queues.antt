@@ -45,9 +45,10 @@ abbrev pub isFound : Found → Bool
 isFound (At k) = true
 isFound Nothing = false
 
--- The list: 256 heads, 256 tops of chains, for each of 1,024 records the next lower one of its chain, and for each of 16 outputs a set of inputs.
+-- The list: 256 heads, 256 tops of chains, for each of 1,024 records the next lower one of its chain, for each of 16 outputs a set of inputs, and
+-- a set of outputs.
 abbrev pub queueWords : ℕ
-queueWords = 1552
+queueWords = 1553
 
 abbrev pub headWord : List ℕ → ℕ → ℕ → ℕ
 headWord qs i o = getD qs (pair i o) 0
@@ -60,6 +61,9 @@ nextWord qs k = getD qs (512 + k) 0
 
 abbrev pub senders : List ℕ → ℕ → ℕ
 senders qs o = getD qs (1536 + o) 0
+
+abbrev pub wanted : List ℕ → ℕ
+wanted qs = getD qs 1552 0
 
 -- a waiting cell of input i for output o
 unfoldable pub waitsFor : ℕ → ℕ → Cell → Bool
@@ -102,6 +106,7 @@ pub record Chains (cl : ℕ → ℕ) (n : ℕ) (qs : List ℕ) : Type 0 where
 pub record Heads (P : ℕ → ℕ → Type 0) (cs : List Cell) (n : ℕ) (qs : List ℕ) : Type 0 where
   pub head : (i o : ℕ) → i < 16 → o < 16 → P i o → headWord qs i o ≡ nameOf (headBelow cs n i o)
   pub sends : (i o : ℕ) → i < 16 → o < 16 → P i o → has (senders qs o) i ≡ isFound (headBelow cs n i o)
+  pub wants : (i o : ℕ) → i < 16 → o < 16 → P i o → So (isFound (headBelow cs n i o)) → So (has (wanted qs) o)
 
 -- every pair, and every pair but one
 abbrev pub All : ℕ → ℕ → Type 0
@@ -139,5 +144,7 @@ pub record HeadSet (qs : List ℕ) (i o : ℕ) (x : Found) (ns : List ℕ) : Typ
   pub sends : has (senders ns o) i ≡ isFound x
   pub heads : (a b : ℕ) → a < 16 → b < 16 → But i o a b → headWord ns a b ≡ headWord qs a b
   pub others : (a b : ℕ) → a < 16 → b < 16 → But i o a b → has (senders ns b) a ≡ has (senders qs b) a
+  pub wants : So (isFound x) → So (has (wanted ns) o)
+  pub kept : (b : ℕ) → So (has (wanted qs) b) → So (has (wanted ns) b)
   pub top : (p : ℕ) → p < 256 → topWord ns p ≡ topWord qs p
   pub next : (k : ℕ) → k < 1024 → nextWord ns k ≡ nextWord qs k

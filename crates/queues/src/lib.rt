@@ -1,7 +1,8 @@
 // The waiting cells by pair of input and output. Of a pair only its head, the oldest cell, can be picked: a round of picking looks at heads and not
 // at the table, and where a head is picked only its own pair is looked into anew.
-// One list of 1,552 words has it all. At 16 x input + output stands the head; from 256 on, alike, the top of the pair's chain, its highest record;
-// from 512 on, for each record, the next lower one of its chain; from 1,536 on, for each output, the set of inputs that have a cell for it.
+// One list of 1,553 words has it all. At 16 x input + output stands the head; from 256 on, alike, the top of the pair's chain, its highest record;
+// from 512 on, for each record, the next lower one of its chain; from 1,536 on, for each output, the set of inputs that have a cell for it; and
+// last a set that has every output with such an input.
 // A record is named by its number + 1, and 0 names none.
 use laws::Found;
 use rules::Cell;
@@ -11,7 +12,7 @@ ghost use lib.ListN.{length, set, replicate};
 ghost use Rattle.laws.specs.Least.{Below};
 ghost use Rattle.laws.specs.First.{firstOf};
 ghost use Rattle.rules.specs.Cells.{records, cellsOf};
-ghost use Rattle.queues.specs.Queues.{pair, named, nameOf, queueWords, headWord, topWord, senders, olderAt, headOf, Chains, Heads, All, But, Queues, HeadSet, classOf, Ports, waitingAt};
+ghost use Rattle.queues.specs.Queues.{pair, named, nameOf, queueWords, headWord, topWord, senders, wanted, olderAt, headOf, Chains, Heads, All, But, Queues, HeadSet, classOf, Ports, waitingAt};
 
 // Where the words of a pair stand.
 fn pair_of(i: u32, o: u32) -> usize
@@ -45,6 +46,14 @@ pub fn senders_for(queues: &[u16], o: u32) -> u16
     queues[1536 + (o as usize)]
 }
 
+// Every output that a cell waits for, and maybe others.
+pub fn wanted_outputs(queues: &[u16]) -> u16
+    requires { ⌜ length (now queues) ≡ queueWords ⌝ }
+    ensures { λ r. ⌜ r ≡ wanted (now (queues .entry)) ⌝ }
+{
+    queues[1552]
+}
+
 // Another head, or none, for a pair.
 fn set_head(queues: &mut [u16], i: u32, o: u32, found: Found)
     requires { ⌜ length (now queues) ≡ queueWords ⌝ }
@@ -56,6 +65,7 @@ fn set_head(queues: &mut [u16], i: u32, o: u32, found: Found)
     let head = pair_of(i, o);
     let at = 1536 + (o as usize);
     let inputs = queues[at];
+    let outputs = queues[1552];
     let Found::At(k) = found else {
         queues[head] = 0;
         queues[at] = ports::except(inputs, ports::with(0, i));
@@ -63,6 +73,7 @@ fn set_head(queues: &mut [u16], i: u32, o: u32, found: Found)
     };
     queues[head] = (k + 1) as u16;
     queues[at] = ports::with(inputs, i);
+    queues[1552] = ports::with(outputs, o);
 }
 
 // Record k becomes the top of the chain of pair p.

@@ -15,11 +15,14 @@ Inv-loop table queues r taken lowest₀ left₀ lowest left = Low (r .counts) (h
 abbrev μ-loop : tie.MeasureT-loop
 μ-loop table queues r taken lowest₀ left₀ lowest left = count (has left) 16
 
+wanted-outputs-requires : tie.Need-wanted-outputs-requires Inv-loop μ-loop
+wanted-outputs-requires c κs = c .before .before .pre .long
+
 except-requires : tie.Need-except-requires Inv-loop μ-loop
 except-requires c κs = tt
 
 loop-holds : tie.Need-loop-holds Inv-loop μ-loop
-loop-holds c = low-none (λ q. refl) (c .except .ensures) 0
+loop-holds c = low-none (c .before .before .before .before .pre) (λ q. refl) (rw (c .before .wanted-outputs .ensures) at (c .except .ensures)) 0
 
 lowest-requires : tie.Need-lowest-requires Inv-loop μ-loop
 lowest-requires c κs = omega arith
@@ -28,7 +31,7 @@ without-requires : tie.Need-without-requires Inv-loop μ-loop
 without-requires c κs = (c .lowest .ensures .small, c .lowest .ensures .inside)
 
 is-servable-requires : tie.Need-is-servable-requires Inv-loop μ-loop
-is-servable-requires c κs = (c .before .lowest .ensures .small, c .before .before .before .before .before .before .before .pre)
+is-servable-requires c κs = (c .before .lowest .ensures .small, c .before .before .before .before .before .before .before .before .pre)
 
 lower-of-requires : tie.Need-lower-of-requires Inv-loop μ-loop
 lower-of-requires c κs = c .before .before .before .lowest .ensures .small
@@ -54,6 +57,7 @@ lowest-readings-spec =
     (tie.spec
     Inv-loop
     μ-loop
+    wanted-outputs-requires
     except-requires
     loop-holds
     lowest-requires
