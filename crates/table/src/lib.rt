@@ -241,7 +241,10 @@ pub struct Reading {
 fn one_if_ready(c: Cell) -> u32
     ensures { λ r. ⌜ r ≡ bit (isReady c) ⌝ }
 {
-    if c.place == 2 { 1 } else { 0 }
+    if c.place != 2 {
+        return 0;
+    }
+    1
 }
 
 // One more for the cell's output, where the cell is ready. Waiting and ready cells are mixed in the table: no branch tells them apart.
@@ -324,17 +327,17 @@ fn is_sound(c: Cell, ports: u32, t: Slot) -> bool
     c.entered.0 < t.0
 }
 
-// Both live, with the same slot and the same input.
+// Both live, with the same slot and the same input. The slot differs most often, and is asked first.
 fn is_same_entry(a: Cell, b: Cell) -> bool
     ensures { λ r. ⌜ r ≡ sameEntry a b ⌝ }
 {
+    if a.entered.0 != b.entered.0 {
+        return false;
+    }
     if a.place == 0 {
         return false;
     }
     if b.place == 0 {
-        return false;
-    }
-    if a.entered.0 != b.entered.0 {
         return false;
     }
     a.input.0 == b.input.0

@@ -8,11 +8,11 @@ use Rattle.table.proofs.one_if_ready.Tie as tie
 
 returns : tie.Need-returns
 unfolding isReady
-returns c = sym (ap bit (eq-eqb _ _ (c .if1 .taken)))
+returns c = sym (ap bit (ne-eqb _ _ (c .if1 .taken)))
 
 returns-2 : tie.Need-returns-2
 unfolding isReady
-returns-2 c = sym (ap bit (ne-eqb _ _ (c .if1 .left)))
+returns-2 c = sym (ap bit (eq-eqb _ _ (c .if1 .left)))
 
 pub one-if-ready-spec : {M : Type 1} → statement M
 one-if-ready-spec = tie.close (tie.spec returns returns-2)
