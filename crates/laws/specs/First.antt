@@ -24,10 +24,10 @@ First p before n (At k) = (k < n) × So (p k) × ((j : ℕ) → j < n → So (p 
 First p before n Nothing = (j : ℕ) → j < n → So (p j) → ⊥
 
 -- of two findings, the first
-abbrev pub firstOf : (ℕ → ℕ → Bool) → Found → Found → Found
-firstOf before Nothing y = y
-firstOf before (At j) Nothing = At j
-firstOf before (At j) (At k) = cond (before k j) (At k) (cond (before j k) (At j) (cond (ltb k j) (At k) (At j)))
+abbrev pub firstFound : (ℕ → ℕ → Bool) → Found → Found → Found
+firstFound before Nothing y = y
+firstFound before (At j) Nothing = At j
+firstFound before (At j) (At k) = cond (before k j) (At k) (cond (before j k) (At j) (cond (ltb k j) (At k) (At j)))
 
 pub first-below : (p : ℕ → Bool) (before : ℕ → ℕ → Bool) (n : ℕ) (x : Found) → First p before n x → Below n x
 first-below p before n (At k) h = h .0
@@ -35,34 +35,34 @@ first-below p before n Nothing h = tt
 
 module _ (before : ℕ → ℕ → Bool) where
   -- the ways that a comparison of two findings goes
-  pub firstOf-none : (x : Found) → firstOf before x Nothing ≡ x
-  firstOf-none (At j) = refl
-  firstOf-none Nothing = refl
+  pub firstFound-none : (x : Found) → firstFound before x Nothing ≡ x
+  firstFound-none (At j) = refl
+  firstFound-none Nothing = refl
 
   module _ (x y : Found) (j k : ℕ) (e : x ≡ At j) (q : y ≡ At k) where
-    pub firstOf-second : So (before k j) → firstOf before x y ≡ At k
-    firstOf-second h = rw (e, q, h)
+    pub firstFound-second : So (before k j) → firstFound before x y ≡ At k
+    firstFound-second h = rw (e, q, h)
 
-    pub firstOf-first : No (before k j) → So (before j k) → firstOf before x y ≡ At j
-    firstOf-first h g = rw (e, q, h, g)
+    pub firstFound-first : No (before k j) → So (before j k) → firstFound before x y ≡ At j
+    firstFound-first h g = rw (e, q, h, g)
 
-    pub firstOf-tie : No (before k j) → No (before j k) → firstOf before x y ≡ cond (ltb k j) (At k) (At j)
-    firstOf-tie h g = rw (e, q, h, g)
+    pub firstFound-tie : No (before k j) → No (before j k) → firstFound before x y ≡ cond (ltb k j) (At k) (At j)
+    firstFound-tie h g = rw (e, q, h, g)
 
   -- against a higher number it is the turn of a search
-  pub firstOf-sooner : (x : Found) (k : ℕ) → Below k x → firstOf before x (At k) ≡ sooner before x true k
-  firstOf-sooner (At j) k h = go (before k j) (before j k)
+  pub firstFound-sooner : (x : Found) (k : ℕ) → Below k x → firstFound before x (At k) ≡ sooner before x true k
+  firstFound-sooner (At j) k h = go (before k j) (before j k)
     where
       go : (a b : Bool) → cond a (At k) (cond b (At j) (cond (ltb k j) (At k) (At j))) ≡ cond a (At k) (At j)
       go true b = refl
       go false true = refl
       go false false = rw (le-ltb k j (omega arith))
-  firstOf-sooner Nothing k h = refl
+  firstFound-sooner Nothing k h = refl
 
-  pub firstOf-below : (n : ℕ) (x y : Found) → Below n x → Below n y → Below n (firstOf before x y)
-  firstOf-below n Nothing y h g = g
-  firstOf-below n (At j) Nothing h g = h
-  firstOf-below n (At j) (At k) h g = go (before k j) (before j k) (ltb k j)
+  pub firstFound-below : (n : ℕ) (x y : Found) → Below n x → Below n y → Below n (firstFound before x y)
+  firstFound-below n Nothing y h g = g
+  firstFound-below n (At j) Nothing h g = h
+  firstFound-below n (At j) (At k) h g = go (before k j) (before j k) (ltb k j)
     where
       go : (a b c : Bool) → Below n (cond a (At k) (cond b (At j) (cond c (At k) (At j))))
       go true b c = g
@@ -111,7 +111,7 @@ module _ (before : ℕ → ℕ → Bool) (w : Ranks before) where
   pub first-least : (p : ℕ → Bool) (n : ℕ) (x : Found) → First p before n x → x ≡ least p before n
   first-least p n x h = first-one p n x (least p before n) h (least-first p n)
 
-  first-two : (j k : ℕ) → (m : ℕ) × (firstOf before (At j) (At k) ≡ At m) × Ahead before m j × Ahead before m k × ((m ≡ j) ⊎ (m ≡ k))
+  first-two : (j k : ℕ) → (m : ℕ) × (firstFound before (At j) (At k) ≡ At m) × Ahead before m j × Ahead before m k × ((m ≡ j) ⊎ (m ≡ k))
   first-two j k = go (before k j) (before j k) (ltb k j) refl refl refl
     where
       go : (a b c : Bool) → before k j ≡ a → before j k ≡ b → ltb k j ≡ c
@@ -123,7 +123,7 @@ module _ (before : ℕ → ℕ → Bool) (w : Ranks before) where
 
   -- the first of a whole of two parts
   module _ (p q s : ℕ → Bool) (n : ℕ) (left : (j : ℕ) → j < n → So (p j) → So (s j)) (right : (j : ℕ) → j < n → So (q j) → So (s j)) (parts : (j : ℕ) → j < n → So (s j) → So (p j) ⊎ So (q j)) where
-    pub first-join : (x y : Found) → First p before n x → First q before n y → First s before n (firstOf before x y)
+    pub first-join : (x y : Found) → First p before n x → First q before n y → First s before n (firstFound before x y)
     first-join Nothing Nothing h g = λ j l v. ⊎-elim (λ u. h j l u) (λ u. g j l u) (parts j l v)
     first-join Nothing (At k) h g = (g .0, right k (g .0) (g .1), λ j l v. ⊎-elim (λ u. absurd (h j l u)) (λ u. g .2 j l u) (parts j l v))
     first-join (At j) Nothing h g = (h .0, left j (h .0) (h .1), λ i l v. ⊎-elim (λ u. h .2 i l u) (λ u. absurd (g i l u)) (parts i l v))

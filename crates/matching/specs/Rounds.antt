@@ -4,7 +4,7 @@ use Prim.Native.Nat.{ℕ, zero, suc, _^_, _≤_, _<_}
 use mathlib.Core.Path.{_≡_, refl, sym, ap, ap₂, _∙_, subst}
 use mathlib.Core.Logic.{_⊎_, inl, inr, ⊎-elim}
 use mathlib.Core.Bool.{Bool, So, true, false, not, _&&_, false≢true, and-true, and-not-self}
-use mathlib.Core.List.{List, []}
+use mathlib.Core.List.{List}
 use native.Mathlib.Omega.{arith}
 use lib.Dec.{eqb, ltb}
 use lib.ListN.{length, getD}
@@ -13,7 +13,7 @@ use Rattle.laws.specs.Tests.{No, passes, refuted, to-no, both, join, denied, de
 use Rattle.laws.specs.Count.{any, any→, →any}
 use Rattle.laws.specs.Order.{lower, lower-below, lower-equal, ranks-on}
 use Rattle.laws.specs.Least.{least, Below}
-use Rattle.laws.specs.First.{Ahead, First, firstOf, firstOf-below, first-join, first-alike, first-least, first-below, least-first}
+use Rattle.laws.specs.First.{Ahead, First, firstFound, firstFound-below, first-join, first-alike, first-least, first-below, least-first}
 use Rattle.laws.specs.declared.Found.{Found}
 use Rattle.laws.specs.declared.Found.the-variants.{At, Nothing}
 use Rattle.ports.specs.Ports.{has, Added, Removed, Except}
@@ -21,21 +21,22 @@ use Rattle.ports.specs.PortLaws.{has-none, none-inside, removed-part, removed-o
 use Rattle.rules.specs.declared.Cell.{Cell}
 use Rattle.rules.specs.Cells.{nth, outputOf, isWaiting, older, before, readingFor}
 use Rattle.ideal.specs.Cells.{waiting→, older-ranks, before-ranks}
-use Rattle.queues.specs.Queues.{pair, named, named-name, isFound, headWord, senders, wanted, waitsFor, waits→, →waits, olderAt, headBelow, headOf, Ports, All, Queues}
+use Rattle.queues.specs.Queues.{pair, named, named-name, isFound, headWord, senders, wanted, waitsFor, waits→, →waits, headBelow, headOf, Ports, All, Queues}
+use Rattle.table.specs.Table.{olderAt}
 use Rattle.queues.specs.Heads.{head-below}
 use Rattle.matching.specs.Picking.{candidate, firstCandidate, InPorts}
 
 -- record i stands before record j
-abbrev pub beforeAt : List ℕ → List Cell → ℕ → ℕ → Bool
+abbrev beforeAt : List ℕ → List Cell → ℕ → ℕ → Bool
 beforeAt r cs i j = before r (nth cs i) (nth cs j)
 
 -- a waiting cell for output o whose input is not in the set
 unfoldable pub waitsOn : (ℕ → Bool) → ℕ → Cell → Bool
 waitsOn ins o c = isWaiting c && not (ins (c .input .0)) && eqb (c .output .0) o
 
--- of those, the one that stands before the others
-unfoldable pub firstFor : List ℕ → (ℕ → Bool) → ℕ → List Cell → Found
-firstFor r ins o cs = least (λ k. waitsOn ins o (nth cs k)) (beforeAt r cs) (length cs)
+-- of those, the oldest
+unfoldable pub firstFor : (ℕ → Bool) → ℕ → List Cell → Found
+firstFor ins o cs = least (λ k. waitsOn ins o (nth cs k)) (olderAt cs) (length cs)
 
 -- there is one
 unfoldable pub isServable : (ℕ → Bool) → ℕ → List Cell → Bool
@@ -74,38 +75,24 @@ module _ (ins outs : ℕ → Bool) (c : Cell) where
 
 -- The head of a pair ----------------------------------------------------------------------------------
 
--- for cells of one output the age decides
-before-older : (r : List ℕ) (c d : Cell) → c .output .0 ≡ d .output .0 → before r c d ≡ older c d
-unfolding before readingFor
-before-older r c d e = lower-equal _ _ _ (ap (λ (o : ℕ). getD r o 0) e)
-
--- a lower reading stands before
-before-lower : (r : List ℕ) (c d : Cell) → readingFor r (c .output) < readingFor r (d .output) → So (before r c d)
-unfolding before
-before-lower r c d l = lower-below _ _ _ l
-
-module _ (r : List ℕ) (cs : List Cell) (i o : ℕ) where
-  pub head-first : First (λ k. waitsFor i o (nth cs k)) (beforeAt r cs) (length cs) (headOf cs i o)
+module _ (cs : List Cell) (i o : ℕ) where
+  head-first : First (λ k. waitsFor i o (nth cs k)) (olderAt cs) (length cs) (headOf cs i o)
   unfolding headBelow
-  head-first =
-      first-alike _ _ (olderAt cs) (beforeAt r cs) (length cs) (λ k l. refl)
-      (λ j k l m x y. sym (before-older r (nth cs j) (nth cs k) (waits→ i o (nth cs j) x .2 ∙ sym (waits→ i o (nth cs k) y .2))))
-      (headOf cs i o)
-      (least-first (olderAt cs) (ranks-on older older-ranks (nth cs)) (λ k. waitsFor i o (nth cs k)) (length cs))
+  head-first = least-first (olderAt cs) (ranks-on older older-ranks (nth cs)) (λ k. waitsFor i o (nth cs k)) (length cs)
 
   -- there is a head where a cell of the pair waits
-  found-head : (x : Found) → First (λ k. waitsFor i o (nth cs k)) (beforeAt r cs) (length cs) x → (k : ℕ) → k < length cs → So (waitsFor i o (nth cs k)) → So (isFound x)
+  found-head : (x : Found) → First (λ k. waitsFor i o (nth cs k)) (olderAt cs) (length cs) x → (k : ℕ) → k < length cs → So (waitsFor i o (nth cs k)) → So (isFound x)
   found-head (At j) h k l w = refl
   found-head Nothing h k l w = absurd (h k l w)
 
-  head-found : (x : Found) → First (λ k. waitsFor i o (nth cs k)) (beforeAt r cs) (length cs) x → So (isFound x) → (k : ℕ) × (k < length cs) × So (waitsFor i o (nth cs k))
+  head-found : (x : Found) → First (λ k. waitsFor i o (nth cs k)) (olderAt cs) (length cs) x → So (isFound x) → (k : ℕ) × (k < length cs) × So (waitsFor i o (nth cs k))
   head-found (At j) h w = (j, h .0, h .1)
   head-found Nothing h w = absurd (false≢true w)
 
--- found is the first of the cells for o whose inputs are not in the set and not left
-pub record Scanned (r : List ℕ) (ins : ℕ → Bool) (o : ℕ) (cs : List Cell) (left : ℕ) (found : Found) : Type 0 where
+-- found is the oldest of the cells for o whose inputs are not in the set and not left
+pub record Scanned (ins : ℕ → Bool) (o : ℕ) (cs : List Cell) (left : ℕ) (found : Found) : Type 0 where
   pub part : (i : ℕ) → So (has left i) → No (ins i)
-  pub first : First (λ k. waitsOn ins o (nth cs k) && not (has left (nth cs k .input .0))) (beforeAt r cs) (length cs) found
+  pub first : First (λ k. waitsOn ins o (nth cs k) && not (has left (nth cs k .input .0))) (olderAt cs) (length cs) found
 
 module _ {cs : List Cell} {qs : List ℕ} (q : Queues All cs qs) where
   -- what the queues say of a pair
@@ -118,10 +105,10 @@ module _ {cs : List Cell} {qs : List ℕ} (q : Queues All cs qs) where
   sends : (k : ℕ) → k < length cs → So (isWaiting (nth cs k)) → So (has (senders qs (nth cs k .output .0)) (nth cs k .input .0))
   sends k l w =
       q .heads .sends (nth cs k .input .0) (nth cs k .output .0) (q .ports .inputs k l w) (q .ports .outputs k l w) tt
-      ∙ found-head [] cs _ _ (headOf cs _ _) (head-first [] cs _ _) k l (→waits _ _ (nth cs k) w refl refl)
+      ∙ found-head cs _ _ (headOf cs _ _) (head-first cs _ _) k l (→waits _ _ (nth cs k) w refl refl)
 
   sent : (i o : ℕ) → i < 16 → o < 16 → So (has (senders qs o) i) → (k : ℕ) × (k < length cs) × So (waitsFor i o (nth cs k))
-  sent i o l m h = head-found [] cs i o (headOf cs i o) (head-first [] cs i o) (sym (q .heads .sends i o l m tt) ∙ h)
+  sent i o l m h = head-found cs i o (headOf cs i o) (head-first cs i o) (sym (q .heads .sends i o l m tt) ∙ h)
 
   -- an output that can be served is wanted
   pub wants : (o : ℕ) (ins : ℕ → Bool) → So (isServable ins o cs) → So (has (wanted qs) o)
@@ -131,7 +118,7 @@ module _ {cs : List Cell} {qs : List ℕ} (q : Queues All cs qs) where
       let w = waitsOn→ ins o (nth cs (k .0)) (k .2) in
       let i : ℕ = nth cs (k .0) .input .0 in
       q .heads .wants i o (q .ports .inputs (k .0) (k .1) (w .0)) (subst (λ (p : ℕ). p < 16) (w .2) (q .ports .outputs (k .0) (k .1) (w .0))) tt
-      (found-head [] cs i o (headOf cs i o) (head-first [] cs i o) (k .0) (k .1) (→waits i o (nth cs (k .0)) (w .0) refl (w .2)))
+      (found-head cs i o (headOf cs i o) (head-first cs i o) (k .0) (k .1) (→waits i o (nth cs (k .0)) (w .0) refl (w .2)))
 
   -- Whether an output can be served ---------------------------------------------------------------------
 
@@ -161,19 +148,19 @@ module _ {cs : List Cell} {qs : List ℕ} (q : Queues All cs qs) where
     pub servable-test : left < 2 ^ 16 → not (eqb left 0) ≡ isServable (has ins) o cs
     servable-test small = ⊎-elim (λ x. ap not x ∙ sym (not-servable (eqb-true left 0 x))) (λ x. ap not x ∙ sym (is-servable small (eqb-false left 0 x))) (passes (eqb left 0))
 
-    pub scan-none : (r : List ℕ) → Scanned r (has ins) o cs left Nothing
-    scan-none r = record {
+    pub scan-none : Scanned (has ins) o cs left Nothing
+    scan-none = record {
       part = λ i h. denied _ (both (has (senders qs o) i) _ (sym (e .each i) ∙ h) .1);
       first = λ k l h. let b = both (waitsOn (has ins) o (nth cs k)) _ h in refuted (left-has k l (b .0)) (denied _ (b .1));
     }
 
-module _ {r : List ℕ} {ins : ℕ → Bool} {o : ℕ} {cs : List Cell} where
-  pub scan-more : {left rest : ℕ} {found : Found} (i : ℕ) → Scanned r ins o cs left found → So (has left i) → Removed left i rest
-      → Scanned r ins o cs rest (firstOf (beforeAt r cs) found (headOf cs i o))
+module _ {ins : ℕ → Bool} {o : ℕ} {cs : List Cell} where
+  pub scan-more : {left rest : ℕ} {found : Found} (i : ℕ) → Scanned ins o cs left found → So (has left i) → Removed left i rest
+      → Scanned ins o cs rest (firstFound (olderAt cs) found (headOf cs i o))
   scan-more {left} {rest} {found} i s h d = record {
     part = λ j x. s .part j (removed-part d j x);
     first =
-        first-join (beforeAt r cs) (ranks-on (before r) (before-ranks r) (nth cs)) _ (λ k. waitsFor i o (nth cs k)) _ (length cs)
+        first-join (olderAt cs) (ranks-on older older-ranks (nth cs)) _ (λ k. waitsFor i o (nth cs k)) _ (length cs)
         (λ k l x. let b = both (waitsOn ins o (nth cs k)) _ x in join _ _ (b .0) (deny _ (removed-out d _ (denied _ (b .1)))))
         (λ k l x.
         let w = waits→ i o (nth cs k) x in
@@ -182,25 +169,25 @@ module _ {r : List ℕ} {ins : ℕ → Bool} {o : ℕ} {cs : List Cell} where
         let b = both (waitsOn ins o (nth cs k)) _ x in
         let w = waitsOn→ ins o (nth cs k) (b .0) in
         ⊎-elim (λ e. inr (→waits i o (nth cs k) (w .0) e (w .2))) (λ n. inl (join _ _ (b .0) (deny _ n))) (removed-split d (nth cs k .input .0) (denied _ (b .1))))
-        found (headOf cs i o) (s .first) (head-first r cs i o);
+        found (headOf cs i o) (s .first) (head-first cs i o);
   }
 
-  pub scan-below : {left : ℕ} {found : Found} → Scanned r ins o cs left found → Below (length cs) found
-  scan-below {left} {found} s = first-below (λ k. waitsOn ins o (nth cs k) && not (has left (nth cs k .input .0))) (beforeAt r cs) (length cs) found (s .first)
+  pub scan-below : {left : ℕ} {found : Found} → Scanned ins o cs left found → Below (length cs) found
+  scan-below {left} {found} s = first-below (λ k. waitsOn ins o (nth cs k) && not (has left (nth cs k .input .0))) (olderAt cs) (length cs) found (s .first)
 
-  pub scan-all : {found : Found} → Scanned r ins o cs 0 found → found ≡ firstFor r ins o cs
+  pub scan-all : {found : Found} → Scanned ins o cs 0 found → found ≡ firstFor ins o cs
   unfolding firstFor
   scan-all {found} s =
-      first-least (beforeAt r cs) (ranks-on (before r) (before-ranks r) (nth cs)) (λ k. waitsOn ins o (nth cs k)) (length cs) found
+      first-least (olderAt cs) (ranks-on older older-ranks (nth cs)) (λ k. waitsOn ins o (nth cs k)) (length cs) found
       (first-alike _ _ _ _ (length cs) (λ k l. ap (λ (b : Bool). waitsOn ins o (nth cs k) && not b) (has-none (nth cs k .input .0)) ∙ and-true (waitsOn ins o (nth cs k))) (λ j k l m x y. refl) found (s .first))
 
-module _ (r : List ℕ) (ins : ℕ → Bool) (o : ℕ) (cs : List Cell) where
-  first-for : First (λ k. waitsOn ins o (nth cs k)) (beforeAt r cs) (length cs) (firstFor r ins o cs)
+module _ (ins : ℕ → Bool) (o : ℕ) (cs : List Cell) where
+  first-for : First (λ k. waitsOn ins o (nth cs k)) (olderAt cs) (length cs) (firstFor ins o cs)
   unfolding firstFor
-  first-for = least-first (beforeAt r cs) (ranks-on (before r) (before-ranks r) (nth cs)) (λ k. waitsOn ins o (nth cs k)) (length cs)
+  first-for = least-first (olderAt cs) (ranks-on older older-ranks (nth cs)) (λ k. waitsOn ins o (nth cs k)) (length cs)
 
-  pub first-for-below : Below (length cs) (firstFor r ins o cs)
-  first-for-below = first-below (λ k. waitsOn ins o (nth cs k)) (beforeAt r cs) (length cs) (firstFor r ins o cs) first-for
+  pub first-for-below : Below (length cs) (firstFor ins o cs)
+  first-for-below = first-below (λ k. waitsOn ins o (nth cs k)) (olderAt cs) (length cs) (firstFor ins o cs) first-for
 
 -- The lowest readings ---------------------------------------------------------------------------------
 
@@ -277,30 +264,40 @@ module _ {r : List ℕ} {ins outs : ℕ → Bool} {cs : List Cell} where
         some = λ p l m n y. g;
       })
 
+-- with the same reading the older cell stands before, with a lower one any cell
+ahead : (r : List ℕ) (cell : ℕ → Cell) (k j : ℕ) → readingFor r (cell k .output) ≡ readingFor r (cell j .output) → Ahead (λ a b. older (cell a) (cell b)) k j → Ahead (λ a b. before r (cell a) (cell b)) k j
+unfolding before
+ahead r cell k j e (inl h) = inl (lower-equal _ _ _ e ∙ h)
+ahead r cell k j e (inr h) = inr (lower-equal _ _ _ (sym e) ∙ h .0, h .1)
+
+before-lower : (r : List ℕ) (c d : Cell) → readingFor r (c .output) < readingFor r (d .output) → So (before r c d)
+unfolding before
+before-lower r c d l = lower-below _ _ _ l
+
 -- The round -------------------------------------------------------------------------------------------
 
--- found is the first of the candidates whose outputs are in the set and not left
-pub record Round (r : List ℕ) (ins outs : ℕ → Bool) (cs : List Cell) (s left : ℕ) (found : Found) : Type 0 where
+-- found is the oldest of the candidates whose outputs are in the set and not left
+pub record Round (ins outs : ℕ → Bool) (cs : List Cell) (s left : ℕ) (found : Found) : Type 0 where
   pub part : (o : ℕ) → So (has left o) → So (has s o)
-  pub first : First (λ k. candidate ins outs (nth cs k) && (has s (nth cs k .output .0) && not (has left (nth cs k .output .0)))) (beforeAt r cs) (length cs) found
+  pub first : First (λ k. candidate ins outs (nth cs k) && (has s (nth cs k .output .0) && not (has left (nth cs k .output .0)))) (olderAt cs) (length cs) found
 
-module _ {r : List ℕ} {ins outs : ℕ → Bool} {cs : List Cell} {s : ℕ} where
-  pub round-none : Round r ins outs cs s s Nothing
+module _ {ins outs : ℕ → Bool} {cs : List Cell} {s : ℕ} where
+  pub round-none : Round ins outs cs s s Nothing
   round-none = record {
     part = λ o h. h;
     first = λ k l h. refuted (both (candidate ins outs (nth cs k)) _ h .1) (and-not-self (has s (nth cs k .output .0)));
   }
 
-  pub round-below : {left : ℕ} {found : Found} → Round r ins outs cs s left found → Below (length cs) found
-  round-below {left} {found} t = first-below (λ k. candidate ins outs (nth cs k) && (has s (nth cs k .output .0) && not (has left (nth cs k .output .0)))) (beforeAt r cs) (length cs) found (t .first)
+  pub round-below : {left : ℕ} {found : Found} → Round ins outs cs s left found → Below (length cs) found
+  round-below {left} {found} t = first-below (λ k. candidate ins outs (nth cs k) && (has s (nth cs k .output .0) && not (has left (nth cs k .output .0)))) (olderAt cs) (length cs) found (t .first)
 
-  module _ (w : Lows r ins outs cs s) where
-    pub round-more : {left rest : ℕ} {found : Found} (o : ℕ) → Round r ins outs cs s left found → So (has left o) → Removed left o rest
-        → Round r ins outs cs s rest (firstOf (beforeAt r cs) found (firstFor r ins o cs))
+  module _ {r : List ℕ} (w : Lows r ins outs cs s) where
+    pub round-more : {left rest : ℕ} {found : Found} (o : ℕ) → Round ins outs cs s left found → So (has left o) → Removed left o rest
+        → Round ins outs cs s rest (firstFound (olderAt cs) found (firstFor ins o cs))
     round-more {left} {rest} {found} o t h d = record {
       part = λ p x. t .part p (removed-part d p x);
       first =
-          first-join (beforeAt r cs) (ranks-on (before r) (before-ranks r) (nth cs)) _ (λ k. waitsOn ins o (nth cs k)) _ (length cs)
+          first-join (olderAt cs) (ranks-on older older-ranks (nth cs)) _ (λ k. waitsOn ins o (nth cs k)) _ (length cs)
           (λ k l x.
           let a = both (candidate ins outs (nth cs k)) _ x in
           let b = both (has s (nth cs k .output .0)) _ (a .1) in
@@ -313,7 +310,7 @@ module _ {r : List ℕ} {ins outs : ℕ → Bool} {cs : List Cell} {s : ℕ} whe
           let b = both (has s (nth cs k .output .0)) _ (a .1) in
           let v = candidate→ ins outs (nth cs k) (a .0) in
           ⊎-elim (λ e. inr (→waitsOn ins o (nth cs k) (v .0) (v .1) e)) (λ n. inl (join _ _ (a .0) (join _ _ (b .0) (deny _ n)))) (removed-split d (nth cs k .output .0) (denied _ (b .1))))
-          found (firstFor r ins o cs) (t .first) (first-for r ins o cs);
+          found (firstFor ins o cs) (t .first) (first-for ins o cs);
     }
 
     module _ (f : Ports cs) where
@@ -332,14 +329,14 @@ module _ {r : List ℕ} {ins outs : ℕ → Bool} {cs : List Cell} {s : ℕ} whe
           let v = waitsOn→ ins p (nth cs (k .0)) (k .2) in
           (k .0, k .1, →candidate ins outs (nth cs (k .0)) (v .0) (v .1) (ap outs (v .2) ∙ n), v .2)
 
-      whole : (found : Found) → Round r ins outs cs s 0 found → First (λ k. candidate ins outs (nth cs k)) (beforeAt r cs) (length cs) found
+      whole : (found : Found) → Round ins outs cs s 0 found → First (λ k. candidate ins outs (nth cs k)) (beforeAt r cs) (length cs) found
       whole (At k) t =
           let a = both (candidate ins outs (nth cs k)) _ (t .first .1) in
           let b = both (has s (nth cs k .output .0)) _ (a .1) in (
             t .first .0,
             a .0,
             λ j l x. ⊎-elim
-                (λ y. t .first .2 j l (inset j x y))
+                (λ y. ahead r (nth cs) k j (w .all .inside (nth cs k .output .0) (b .0) .2 ∙ sym (w .all .inside (nth cs j .output .0) y .2)) (t .first .2 j l (inset j x y)))
                 (λ y.
                 let v = candidate→ ins outs (nth cs j) x in
                 inl (before-lower r (nth cs k) (nth cs j) (omega (arith, w .all .inside (nth cs k .output .0) (b .0) .2, w .all .beyond (nth cs j .output .0) (f .outputs j l (v .0)) (v .2) (has-none (nth cs j .output .0)) (servable j l x) y))))
@@ -356,6 +353,6 @@ module _ {r : List ℕ} {ins outs : ℕ → Bool} {cs : List Cell} {s : ℕ} whe
           t .first (k .0) (k .1) (inset (k .0) (k .2) (ap (has s) (k .3) ∙ p .1)))
           (passes (has s (nth cs j .output .0)))
 
-      pub round-all : {found : Found} → Round r ins outs cs s 0 found → found ≡ firstCandidate r ins outs cs
+      pub round-all : {found : Found} → Round ins outs cs s 0 found → found ≡ firstCandidate r ins outs cs
       unfolding firstCandidate
       round-all {found} t = first-least (beforeAt r cs) (ranks-on (before r) (before-ranks r) (nth cs)) (λ k. candidate ins outs (nth cs k)) (length cs) found (whole found t)

@@ -1,20 +1,16 @@
-// A transfer phase: which cell stands before which, rounds of picking, and the match words; and S phases by one reading.
+// A transfer phase: rounds of picking by the queues' heads, and the match words; and S phases by one reading.
 use laws::Found;
-use rules::Cell;
-use rules::Output;
 use table::Reading;
 ghost use mathlib.Core.Path.{_≡_};
 ghost use Prim.Native.Nat.{_+_, _*_, _<_, _≤_};
 ghost use lib.ListN.{length};
 ghost use Rattle.ports.specs.Ports.{has};
-ghost use Rattle.laws.specs.Least.{Below};
-ghost use Rattle.laws.specs.First.{firstOf};
 ghost use Rattle.queues.specs.Queues.{All, Queues};
-ghost use Rattle.rules.specs.Cells.{nth, records, cellsOf, outputOf, readingFor, before};
+ghost use Rattle.rules.specs.Cells.{nth, records, cellsOf};
 ghost use Rattle.rules.specs.Phases.{matchOf, phases};
 ghost use Rattle.rules.specs.Phases.{matches as matchesOf};
 ghost use Rattle.matching.specs.Picking.{firstCandidate, InPorts, Takes, Shows};
-ghost use Rattle.matching.specs.Rounds.{beforeAt, firstFor, isServable, Lowered, Lows};
+ghost use Rattle.matching.specs.Rounds.{firstFor, isServable, Lowered, Lows};
 ghost use Rattle.matching.specs.Transfer.{Writable, Written, Transferred};
 
 // The taken inputs and the taken outputs are two sets of ports.
@@ -29,56 +25,18 @@ pub struct Picked {
     pub served: [u32; 16],
 }
 
-// By the output's reading, then by slot, then by input.
-pub fn stands_before(r: Reading, c: Cell, d: Cell) -> bool
-    ensures { λ q. ⌜ q ≡ before (r .counts) c d ⌝ }
-{
-    let x = table::reading_for(r, c.output);
-    let y = table::reading_for(r, d.output);
-    if x < y {
-        return true;
-    }
-    if y < x {
-        return false;
-    }
-    table::is_older(c, d)
-}
-
-// Of two findings the one whose cell stands before the other's; the lower-numbered where neither does.
-fn first_of(table: &[u32], r: Reading, a: Found, b: Found) -> Found
-    requires { ⌜ Below (records (now table)) a ⌝ }
-    requires { ⌜ Below (records (now table)) b ⌝ }
-    ensures { λ q. ⌜ q ≡ firstOf (beforeAt (r .counts) (cellsOf (now (table .entry)))) a b ⌝ }
-{
-    let Found::At(j) = a else {
-        return b;
-    };
-    let Found::At(k) = b else {
-        return Found::At(j);
-    };
-    let c = table::cell_at(table, j);
-    let d = table::cell_at(table, k);
-    if stands_before(r, d, c) {
-        return Found::At(k);
-    }
-    if stands_before(r, c, d) {
-        return Found::At(j);
-    }
-    if k < j { Found::At(k) } else { Found::At(j) }
-}
-
-// Of the waiting cells for an output, at inputs that are not taken, the one that stands before the others: a look at the heads.
-fn first_for(table: &[u32], queues: &[u16], r: Reading, inputs: u16, o: u32) -> Found
+// Of the waiting cells for an output, at inputs that are not taken, the oldest: a look at the heads.
+fn first_for(table: &[u32], queues: &[u16], inputs: u16, o: u32) -> Found
     requires { ⌜ o < 16 ⌝ }
     requires { ⌜ Queues All (cellsOf (now table)) (now queues) ⌝ }
-    ensures { λ q. ⌜ q ≡ firstFor (r .counts) (has inputs) o (cellsOf (now (table .entry))) ⌝ }
+    ensures { λ q. ⌜ q ≡ firstFor (has inputs) o (cellsOf (now (table .entry))) ⌝ }
 {
     let mut found = Found::Nothing;
     let mut left = ports::except(queues::senders_for(queues, o), inputs);
     while left != 0 {
         let i = ports::lowest(left);
         left = ports::without(left, i);
-        found = first_of(table, r, found, queues::head_of(queues, i, o));
+        found = table::older_finding(table, found, queues::head_of(queues, i, o));
     }
     found
 }
@@ -98,12 +56,11 @@ struct Lowest {
     reading: u32,
 }
 
-// The outputs with the lowest reading, once output o is among those looked at.
-fn lower_of(r: Reading, lowest: Lowest, o: u32) -> Lowest
+// The outputs with the lowest reading, once output o, whose reading is x, is among those looked at.
+fn lower_of(lowest: Lowest, o: u32, x: u32) -> Lowest
     requires { ⌜ o < 16 ⌝ }
-    ensures { λ q. ⌜ Lowered (readingFor (r .counts) (outputOf o)) o (lowest .outputs) (lowest .reading) (q .outputs) (q .reading) ⌝ }
+    ensures { λ q. ⌜ Lowered x o (lowest .outputs) (lowest .reading) (q .outputs) (q .reading) ⌝ }
 {
-    let x = table::reading_for(r, Output(o));
     let fresh = Lowest {
         outputs: ports::with(0, o),
         reading: x,
@@ -137,13 +94,14 @@ fn lowest_readings(table: &[u32], queues: &[u16], r: Reading, taken: Taken) -> u
         let o = ports::lowest(left);
         left = ports::without(left, o);
         if is_servable(table, queues, taken.inputs, o) {
-            lowest = lower_of(r, lowest, o);
+            let at = o as usize;
+            lowest = lower_of(lowest, o, r.counts[at]);
         }
     }
     lowest.outputs
 }
 
-// Of the waiting cells that conflict with none picked, the one that stands before the others.
+// Of the waiting cells that conflict with none picked, the one that stands before the others: for an output with the lowest reading, the oldest.
 pub fn first_candidate(table: &[u32], queues: &[u16], r: Reading, taken: Taken) -> Found
     requires { ⌜ Queues All (cellsOf (now table)) (now queues) ⌝ }
     ensures { λ q. ⌜ q ≡ firstCandidate (r .counts) (has (taken .inputs)) (has (taken .outputs)) (cellsOf (now (table .entry))) ⌝ }
@@ -154,7 +112,7 @@ pub fn first_candidate(table: &[u32], queues: &[u16], r: Reading, taken: Taken) 
     while left != 0 {
         let o = ports::lowest(left);
         left = ports::without(left, o);
-        found = first_of(table, r, found, first_for(table, queues, r, inputs, o));
+        found = table::older_finding(table, found, first_for(table, queues, inputs, o));
     }
     found
 }

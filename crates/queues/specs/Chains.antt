@@ -14,13 +14,14 @@ use lib.Seq.{getD-set-same, getD-set-other}
 use Rattle.laws.specs.Tests.{No, passes, refuted, to-no, both, join, deny, denied, cond-true, cond-false, eqb-self}
 use Rattle.laws.specs.Walk.{below-suc}
 use Rattle.laws.specs.Order.{ranks-on}
-use Rattle.laws.specs.First.{First, firstOf, first-join, first-least, first-alike}
+use Rattle.laws.specs.First.{First, firstFound, first-join, first-least, first-alike}
 use Rattle.laws.specs.declared.Found.{Found}
 use Rattle.laws.specs.declared.Found.the-variants.{At, Nothing}
 use Rattle.rules.specs.declared.Cell.{Cell}
 use Rattle.rules.specs.Cells.{nth, isWaiting, older}
 use Rattle.ideal.specs.Cells.{older-ranks}
-use Rattle.queues.specs.Queues.{pair, pairOf, queueWords, topWord, nextWord, olderAt, waitsFor, waits→, →waits, headBelow, headOf, Link, Chains, Ports, Queues, waitingAt, classOf}
+use Rattle.table.specs.Table.{olderAt}
+use Rattle.queues.specs.Queues.{pair, pairOf, queueWords, topWord, nextWord, waitsFor, waits→, →waits, headBelow, headOf, Link, Chains, Ports, Queues, waitingAt, classOf}
 
 -- a record of another pair is no member
 link-on : {cl : ℕ → ℕ} {p k v : ℕ} → Link cl p k v → (cl k ≡ p → ⊥) → Link cl p (k + 1) v
@@ -165,7 +166,7 @@ module _ {P : ℕ → ℕ → Type 0} {cs : List Cell} {qs : List ℕ} (q : Queu
             let y : j ≡ k = eqb-true j k (x .0) in
             refuted (waits→ i o (nth cs j) (x .1) .0) (ap (λ (z : ℕ). isWaiting (nth cs z)) y ∙ e)
 
-    pub looked-next : Looked (q .cl) cs i o (nextWord qs k) (firstOf (olderAt cs) found (waitingAt cs k))
+    pub looked-next : Looked (q .cl) cs i o (nextWord qs k) (firstFound (olderAt cs) found (waitingAt cs k))
     looked-next =
         let m = next in
         record {
@@ -192,7 +193,7 @@ module _ {P : ℕ → ℕ → Type 0} {cs : List Cell} {qs : List ℕ} (q : Queu
 
   -- the same, in the words of the code
   pub looked-on : (v k : ℕ) (found : Found) → v ≡ suc k → Looked (q .cl) cs i o v found
-      → (nextWord qs k < v) × Looked (q .cl) cs i o (nextWord qs k) (firstOf (olderAt cs) found (waitingAt cs k))
+      → (nextWord qs k < v) × Looked (q .cl) cs i o (nextWord qs k) (firstFound (olderAt cs) found (waitingAt cs k))
   looked-on v k found e s = let u = rw e at s in (omega (arith, next k found u .within, e), looked-next k found u)
 
   pub looked-all : (found : Found) → Looked (q .cl) cs i o 0 found → found ≡ headOf cs i o

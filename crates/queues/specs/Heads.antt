@@ -13,7 +13,7 @@ use lib.ListN.{length, getD, set, length-set, replicate, getD-replicate, length-
 use lib.Seq.{getD-set-same, getD-set-other, set-getD}
 use Rattle.laws.specs.Tests.{No, passes, refuted, to-no, fails-right, same-test, cond-true, cond-false}
 use Rattle.laws.specs.Least.{least, least-zero, least-more, least-below, least-same, Below, sooner, sooner-skip}
-use Rattle.laws.specs.First.{firstOf, firstOf-sooner, firstOf-below}
+use Rattle.laws.specs.First.{firstFound, firstFound-sooner, firstFound-below}
 use Rattle.laws.specs.declared.Found.{Found}
 use Rattle.laws.specs.declared.Found.the-variants.{At, Nothing}
 use Rattle.ports.specs.Ports.{has, Added, Except}
@@ -22,7 +22,8 @@ use Rattle.rules.specs.declared.Cell.{Cell}
 use Rattle.rules.specs.Cells.{free, nth, placed, isWaiting, records, cellsOf}
 use Rattle.ideal.specs.Cells.{Same, older-same}
 use Rattle.ideal.specs.Words.{length-cellsOf}
-use Rattle.queues.specs.Queues.{pair, pairOf, named, nameOf, named-name, isFound, queueWords, headWord, topWord, nextWord, senders, wanted, olderAt, waitsFor, waits→, →waits, headBelow, headOf, Chains, Heads, All, But, Ports, Queues, waitingAt, classOf, HeadSet}
+use Rattle.table.specs.Table.{olderAt, below-more}
+use Rattle.queues.specs.Queues.{pair, pairOf, named, nameOf, named-name, isFound, queueWords, headWord, topWord, nextWord, senders, wanted, waitsFor, waits→, →waits, headBelow, headOf, Chains, Heads, All, But, Ports, Queues, waitingAt, classOf, HeadSet}
 use Rattle.queues.specs.Chains.{chains-kept, chains-link, class-waiting}
 
 -- A new head ----------------------------------------------------------------------------------
@@ -120,11 +121,11 @@ module _ (cs : List Cell) (k i o : ℕ) where
   unfolding headBelow
   head-skip h = least-more _ _ k ∙ sooner-skip _ k _ _ h
 
-  head-join : So (waitsFor i o (nth cs k)) → headBelow cs (k + 1) i o ≡ firstOf (olderAt cs) (headBelow cs k i o) (At k)
+  head-join : So (waitsFor i o (nth cs k)) → headBelow cs (k + 1) i o ≡ firstFound (olderAt cs) (headBelow cs k i o) (At k)
   unfolding headBelow
   head-join h =
       least-more _ _ k ∙ ap (λ (b : Bool). sooner (olderAt cs) (headBelow cs k i o) b k) h
-      ∙ sym (firstOf-sooner (olderAt cs) (headBelow cs k i o) k (least-below _ _ k))
+      ∙ sym (firstFound-sooner (olderAt cs) (headBelow cs k i o) k (least-below _ _ k))
 
   pub head-below : Below k (headBelow cs k i o)
   unfolding headBelow
@@ -142,15 +143,15 @@ heads-skip {cs} {k} n h = record {
 
 -- record k, a waiting cell of input i for output o, joins: ms are qs but for the chains
 module _ {cs : List Cell} {k : ℕ} {qs : List ℕ} (i o : ℕ) (small : i < 16) (less : o < 16) (h : Heads All cs k qs) (w : So (isWaiting (nth cs k))) (a : nth cs k .input .0 ≡ i) (b : nth cs k .output .0 ≡ o) where
-  now-head : (x : Found) → x ≡ headBelow cs k i o → firstOf (olderAt cs) x (waitingAt cs k) ≡ headBelow cs (k + 1) i o
+  now-head : (x : Found) → x ≡ headBelow cs k i o → firstFound (olderAt cs) x (waitingAt cs k) ≡ headBelow cs (k + 1) i o
   unfolding waitingAt
   now-head x e =
-      ap (λ (v : Found). firstOf (olderAt cs) v (cond (isWaiting (nth cs k)) (At k) Nothing)) e
-      ∙ ap (λ (v : Bool). firstOf (olderAt cs) (headBelow cs k i o) (cond v (At k) Nothing)) w
+      ap (λ (v : Found). firstFound (olderAt cs) v (cond (isWaiting (nth cs k)) (At k) Nothing)) e
+      ∙ ap (λ (v : Bool). firstFound (olderAt cs) (headBelow cs k i o) (cond v (At k) Nothing)) w
       ∙ sym (head-join cs k i o (→waits i o (nth cs k) w a b))
 
   pub heads-join : {ms ns : List ℕ} → ((j : ℕ) → j < 256 → getD ms j 0 ≡ getD qs j 0) → ((q : ℕ) → q < 16 → senders ms q ≡ senders qs q) → wanted ms ≡ wanted qs
-      → HeadSet ms i o (firstOf (olderAt cs) (named (headWord ms i o)) (waitingAt cs k)) ns → Heads All cs (k + 1) ns
+      → HeadSet ms i o (firstFound (olderAt cs) (named (headWord ms i o)) (waitingAt cs k)) ns → Heads All cs (k + 1) ns
   heads-join {ms} {ns} e f g s = record {
     head = λ x y l m z. ⊎-elim (λ t. at-pair x y l m (eqb-true (pair x y) (pair i o) t)) (λ t. let n = eqb-false (pair x y) (pair i o) t in s .heads x y l m n ∙ e (pair x y) (omega arith) ∙ h .head x y l m z ∙ sym (ap nameOf (head-skip cs k x y (out x y n)))) (passes (eqb (pair x y) (pair i o)));
     sends = λ x y l m z. ⊎-elim (λ t. at-sends x y l m (eqb-true (pair x y) (pair i o) t)) (λ t. let n = eqb-false (pair x y) (pair i o) t in s .others x y l m n ∙ ap (λ (v : ℕ). has v x) (f y m) ∙ h .sends x y l m z ∙ sym (ap isFound (head-skip cs k x y (out x y n)))) (passes (eqb (pair x y) (pair i o)));
@@ -160,7 +161,7 @@ module _ {cs : List Cell} {k : ℕ} {qs : List ℕ} (i o : ℕ) (small : i < 16)
       out : (x y : ℕ) → (pair x y ≡ pair i o → ⊥) → No (waitsFor x y (nth cs k))
       out x y n = to-no (λ v. let t = waits→ x y (nth cs k) v in n (omega (arith, t .1, t .2, a, b)))
 
-      joined : firstOf (olderAt cs) (named (headWord ms i o)) (waitingAt cs k) ≡ headBelow cs (k + 1) i o
+      joined : firstFound (olderAt cs) (named (headWord ms i o)) (waitingAt cs k) ≡ headBelow cs (k + 1) i o
       joined = now-head _ (ap named (e (pair i o) (omega arith) ∙ h .head i o small less tt) ∙ named-name (headBelow cs k i o))
 
       at-pair : (x y : ℕ) → x < 16 → y < 16 → pair x y ≡ pair i o → headWord ns x y ≡ nameOf (headBelow cs (k + 1) x y)
@@ -198,13 +199,6 @@ waiting-below n cs k l = go (isWaiting (nth cs k))
     go : (b : Bool) → Below n (cond b (At k) Nothing)
     go true = l
     go false = tt
-
-pub below-at : (n : ℕ) (x : Found) (k : ℕ) → x ≡ At k → Below n x → k < n
-below-at n x k e h = rw e at h
-
-pub below-more : (k n : ℕ) (x : Found) → k ≤ n → Below k x → Below n x
-below-more k n (At j) l h = omega arith
-below-more k n Nothing l h = tt
 
 -- Record k joins ------------------------------------------------------------------------------------
 
@@ -262,13 +256,13 @@ module _ {cs : List Cell} {k : ℕ} {qs : List ℕ} {c : Cell} (g : Joins cs k q
     pub old-below : (n : ℕ) (x : Found) → k ≤ n → x ≡ named (headWord ms (c .input .0) (c .output .0)) → Below n x
     old-below n x l e = rw (e, old-head) (below-more k n (headBelow cs k (c .input .0) (c .output .0)) l (head-below cs k (c .input .0) (c .output .0)))
 
-    pub new-below : (x y : Found) → x ≡ named (headWord ms (c .input .0) (c .output .0)) → y ≡ firstOf (olderAt cs) x (waitingAt cs k) → Below 1024 y
+    pub new-below : (x y : Found) → x ≡ named (headWord ms (c .input .0) (c .output .0)) → y ≡ firstFound (olderAt cs) x (waitingAt cs k) → Below 1024 y
     new-below x y e q =
         let l : k < 1024 = let v = g .inside in omega (arith, g .few) in
-        rw q (firstOf-below (olderAt cs) 1024 x (waitingAt cs k) (old-below 1024 x (omega arith) e) (waiting-below 1024 cs k l))
+        rw q (firstFound-below (olderAt cs) 1024 x (waitingAt cs k) (old-below 1024 x (omega arith) e) (waiting-below 1024 cs k l))
 
     pub joined : {ns : List ℕ} (x : Found) → x ≡ named (headWord ms (c .input .0) (c .output .0))
-        → HeadSet ms (c .input .0) (c .output .0) (firstOf (olderAt cs) x (waitingAt cs k)) ns
+        → HeadSet ms (c .input .0) (c .output .0) (firstFound (olderAt cs) x (waitingAt cs k)) ns
         → (length ns ≡ queueWords) × (Chains (classOf cs) (k + 1) ns × Heads All cs (k + 1) ns)
     joined {ns} x q s = (
       s .long ∙ linked-long,

@@ -15,7 +15,8 @@ use Rattle.laws.specs.declared.Found.{Found}
 use Rattle.laws.specs.declared.Found.the-variants.{At, Nothing}
 use Rattle.ports.specs.Ports.{has}
 use Rattle.rules.specs.declared.Cell.{Cell}
-use Rattle.rules.specs.Cells.{nth, isWaiting, older}
+use Rattle.rules.specs.Cells.{nth, isWaiting}
+use Rattle.table.specs.Table.{olderAt}
 
 -- where the words of a pair stand
 abbrev pub pair : ℕ → ℕ → ℕ
@@ -79,10 +80,6 @@ waits→ i o c h =
 pub →waits : (i o : ℕ) (c : Cell) → So (isWaiting c) → c .input .0 ≡ i → c .output .0 ≡ o → So (waitsFor i o c)
 unfolding waitsFor
 →waits i o c h a b = join _ _ (join _ _ h (eq-eqb _ _ a)) (eq-eqb _ _ b)
-
--- record i is older than record j
-abbrev pub olderAt : List Cell → ℕ → ℕ → Bool
-olderAt cs i j = older (nth cs i) (nth cs j)
 
 -- of the cells of a pair among the first n records, the oldest
 unfoldable pub headBelow : List Cell → ℕ → ℕ → ℕ → Found

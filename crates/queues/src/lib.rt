@@ -10,9 +10,10 @@ ghost use mathlib.Core.Path.{_≡_};
 ghost use Prim.Native.Nat.{suc, _+_, _*_, _<_, _≤_};
 ghost use lib.ListN.{length, set, replicate};
 ghost use Rattle.laws.specs.Least.{Below};
-ghost use Rattle.laws.specs.First.{firstOf};
+ghost use Rattle.laws.specs.First.{firstFound};
 ghost use Rattle.rules.specs.Cells.{records, cellsOf};
-ghost use Rattle.queues.specs.Queues.{pair, named, nameOf, queueWords, headWord, topWord, senders, wanted, olderAt, headOf, Chains, Heads, All, But, Queues, HeadSet, classOf, Ports, waitingAt};
+ghost use Rattle.table.specs.Table.{olderAt};
+ghost use Rattle.queues.specs.Queues.{pair, named, nameOf, queueWords, headWord, topWord, senders, wanted, headOf, Chains, Heads, All, But, Queues, HeadSet, classOf, Ports, waitingAt};
 
 // Where the words of a pair stand.
 fn pair_of(i: u32, o: u32) -> usize
@@ -88,27 +89,17 @@ fn link(queues: &mut [u16], p: usize, k: usize)
     queues[256 + p] = (k + 1) as u16;
 }
 
-// Of what was found and record k, where that waits, the older; the lower-numbered where neither is.
+// Of what was found and record k, where that waits, the older.
 fn older_of(table: &[u32], found: Found, k: usize) -> Found
     requires { ⌜ k < records (now table) ⌝ }
     requires { ⌜ Below (records (now table)) found ⌝ }
-    ensures { λ r. ⌜ r ≡ firstOf (olderAt (cellsOf (now (table .entry)))) found (waitingAt (cellsOf (now (table .entry))) k) ⌝ }
+    ensures { λ r. ⌜ r ≡ firstFound (olderAt (cellsOf (now (table .entry)))) found (waitingAt (cellsOf (now (table .entry))) k) ⌝ }
 {
     let c = table::cell_at(table, k);
     if c.place != 1 {
         return found;
     }
-    let Found::At(j) = found else {
-        return Found::At(k);
-    };
-    let d = table::cell_at(table, j);
-    if table::is_older(c, d) {
-        return Found::At(k);
-    }
-    if table::is_older(d, c) {
-        return Found::At(j);
-    }
-    if k < j { Found::At(k) } else { Found::At(j) }
+    table::older_finding(table, found, Found::At(k))
 }
 
 // The oldest waiting cell of a pair, looked for along its chain.

@@ -69,6 +69,10 @@ module _ (cs : List Cell) where
   unfolding readingsBelow
   at-output k o l = getD-tabulate (readyBelow cs k) mostPorts 0 o l
 
+  pub length-readings : (k : ℕ) → length (readingsBelow cs k) ≡ mostPorts
+  unfolding readingsBelow
+  length-readings k = length-tabulate (readyBelow cs k) mostPorts
+
   pub readings-none : replicate mostPorts 0 ≡ readingsBelow cs 0
   unfolding readingsBelow
   readings-none =

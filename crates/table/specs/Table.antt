@@ -2,7 +2,7 @@
 -- Assumes nothing.
 use Prim.Native.Nat.{ℕ, _+_, _*_, _<_, _≤_}
 use mathlib.Core.Path.{_≡_, sym, ap, _∙_}
-use mathlib.Core.Bool.{So}
+use mathlib.Core.Bool.{Bool, So}
 use mathlib.Core.List.{List}
 use native.Mathlib.Omega.{arith}
 use native.Mathlib.Numerals.{add-one}
@@ -11,10 +11,11 @@ use lib.Seq.{getD-set-other, set-getD}
 use borrow.Author.Tests.{eq-eqb, ne-eqb}
 use Rattle.laws.specs.Tests.{No}
 use Rattle.laws.specs.Walk.{below-suc}
-use Rattle.laws.specs.Least.{lowest-nothing, lowest-hit}
+use Rattle.laws.specs.Least.{Below, lowest-nothing, lowest-hit}
+use Rattle.laws.specs.declared.Found.{Found}
 use Rattle.laws.specs.declared.Found.the-variants.{At, Nothing}
 use Rattle.rules.specs.declared.Cell.{Cell}
-use Rattle.rules.specs.Cells.{nth, placed, isFree, isLive, width, records, cellAt, cellsOf}
+use Rattle.rules.specs.Cells.{nth, placed, isFree, isLive, width, records, cellAt, cellsOf, older}
 use Rattle.rules.specs.Phases.{lowestFree}
 use Rattle.ideal.specs.Words.{length-cellsOf, nth-cellsOf, same-records, store, length-store, cellsOf-store}
 
@@ -77,3 +78,17 @@ module _ {ws : List ℕ} {k : ℕ} (b : NoneBelow ws k) where
   pub none-free : records ws ≤ k → lowestFree (cellsOf ws) ≡ Nothing
   unfolding lowestFree
   none-free l = let e : length (cellsOf ws) ≡ k = omega (arith, length-cellsOf ws, b .inside) in rw e (lowest-nothing _ k (b .none))
+
+-- Findings ------------------------------------------------------------------------------------------
+
+-- record i is older than record j
+abbrev pub olderAt : List Cell → ℕ → ℕ → Bool
+olderAt cs i j = older (nth cs i) (nth cs j)
+
+-- what is found is in reach
+pub below-at : (n : ℕ) (x : Found) (k : ℕ) → x ≡ At k → Below n x → k < n
+below-at n x k e h = rw e at h
+
+pub below-more : (k n : ℕ) (x : Found) → k ≤ n → Below k x → Below n x
+below-more k n (At j) l h = omega arith
+below-more k n Nothing l h = tt

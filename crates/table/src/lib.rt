@@ -10,10 +10,11 @@ ghost use Prim.Native.Nat.{_+_, _<_, _≤_};
 ghost use lib.ListN.{length, getD, replicate};
 ghost use Rattle.laws.specs.Least.{Below, sooner};
 ghost use Rattle.laws.specs.Count.{bit};
-ghost use Rattle.rules.specs.Cells.{free, placed, nth, records, isWhole, cellsOf, isReady, isReadyFor, isBlank, isSound, sameEntry, isAlone, fit, older, readingFor};
+ghost use Rattle.laws.specs.First.{firstFound};
+ghost use Rattle.rules.specs.Cells.{free, placed, nth, records, isWhole, cellsOf, isReady, isReadyFor, isBlank, isSound, sameEntry, isAlone, fit, older};
 ghost use Rattle.rules.specs.Answers.{live};
 ghost use Rattle.rules.specs.Phases.{lowestFree, readings, oldestReady};
-ghost use Rattle.table.specs.Table.{Stored, NoneBelow};
+ghost use Rattle.table.specs.Table.{Stored, NoneBelow, olderAt};
 ghost use Rattle.table.specs.Blocks.{OrOf, FreeBlock};
 ghost use Rattle.table.specs.Reading.{bumped};
 ghost use Rattle.table.specs.Marks.{Seen, Marked};
@@ -148,6 +149,29 @@ pub fn is_older(a: Cell, b: Cell) -> bool
     a.input.0 < b.input.0
 }
 
+// Of two findings the one with the older cell; the lower-numbered where neither is older.
+pub fn older_finding(table: &[u32], a: Found, b: Found) -> Found
+    requires { ⌜ Below (records (now table)) a ⌝ }
+    requires { ⌜ Below (records (now table)) b ⌝ }
+    ensures { λ r. ⌜ r ≡ firstFound (olderAt (cellsOf (now (table .entry)))) a b ⌝ }
+{
+    let Found::At(j) = a else {
+        return b;
+    };
+    let Found::At(k) = b else {
+        return Found::At(j);
+    };
+    let c = cell_at(table, j);
+    let d = cell_at(table, k);
+    if is_older(d, c) {
+        return Found::At(k);
+    }
+    if is_older(c, d) {
+        return Found::At(j);
+    }
+    if k < j { Found::At(k) } else { Found::At(j) }
+}
+
 pub fn is_ready_for(c: Cell, o: Output) -> bool
     ensures { λ r. ⌜ r ≡ isReadyFor o c ⌝ }
 {
@@ -248,22 +272,20 @@ fn one_if_ready(c: Cell) -> u32
 }
 
 // One more for the cell's output, where the cell is ready. Waiting and ready cells are mixed in the table: no branch tells them apart.
-fn bump(r: Reading, c: Cell) -> Reading
-    requires { ⌜ getD (r .counts) (c .output .0) 0 < 1024 ⌝ }
-    ensures { λ q. ⌜ q .counts ≡ bumped (r .counts) c ⌝ }
+fn bump(counts: &mut [u32; 16], c: Cell)
+    requires { ⌜ length (now counts) ≡ 16 ⌝ }
+    requires { ⌜ getD (now counts) (c .output .0) 0 < 1024 ⌝ }
+    ensures { λ _. ⌜ now (counts .exit) ≡ bumped (now (counts .entry)) c ⌝ }
 {
     if c.place == 0 {
-        return r;
+        return;
     }
     let o = c.output.0;
     if 16 <= o {
-        return r;
+        return;
     }
     let at = o as usize;
-    let mut next = r;
-    let v = next.counts[at];
-    next.counts[at] = v + one_if_ready(c);
-    next
+    counts[at] = counts[at] + one_if_ready(c);
 }
 
 pub fn read(table: &[u32]) -> Reading
@@ -271,25 +293,14 @@ pub fn read(table: &[u32]) -> Reading
     ensures { λ r. ⌜ r .counts ≡ readings (cellsOf (now (table .entry))) ⌝ }
 {
     let n = record_count(table);
-    let mut r = Reading { counts: [0; 16] };
+    let mut counts = [0u32; 16];
     let mut k = 0;
     while k < n {
         let c = cell_at(table, k);
-        r = bump(r, c);
+        bump(&mut counts, c);
         k += 1;
     }
-    r
-}
-
-// The reading of one output; 0 for a number that no output has.
-pub fn reading_for(r: Reading, o: Output) -> u32
-    ensures { λ v. ⌜ v ≡ readingFor (r .counts) o ⌝ }
-{
-    let at = o.0 as usize;
-    if 16 <= at {
-        return 0;
-    }
-    r.counts[at]
+    Reading { counts: counts }
 }
 
 // The four fields after the place are zero.

@@ -4,16 +4,16 @@ use native.Mathlib.Omega.{arith}
 use Rattle.laws.specs.Count.{count}
 use Rattle.ports.specs.Ports.{has}
 use Rattle.ports.specs.PortLaws.{removed-count}
-use Rattle.rules.specs.Cells.{cellsOf}
+use Rattle.rules.specs.Cells.{cellsOf, readingFor}
 use Rattle.matching.specs.Rounds.{Low, low-none, low-skip, low-step}
 use Rattle.matching.proofs.lowest_readings.Statement.{statement}
 use Rattle.matching.proofs.lowest_readings.Tie as tie
 
 abbrev Inv-loop : tie.InvT-loop
-Inv-loop table queues r taken lowest₀ left₀ lowest left = Low (r .counts) (has (taken .inputs)) (has (taken .outputs)) (cellsOf table) left (lowest .outputs) (lowest .reading)
+Inv-loop table queues taken r lowest₀ left₀ lowest left = Low (r .counts) (has (taken .inputs)) (has (taken .outputs)) (cellsOf table) left (lowest .outputs) (lowest .reading)
 
 abbrev μ-loop : tie.MeasureT-loop
-μ-loop table queues r taken lowest₀ left₀ lowest left = count (has left) 16
+μ-loop table queues taken r lowest₀ left₀ lowest left = count (has left) 16
 
 wanted-outputs-requires : tie.Need-wanted-outputs-requires Inv-loop μ-loop
 wanted-outputs-requires c κs = c .before .before .pre .long
@@ -33,14 +33,24 @@ without-requires c κs = (c .lowest .ensures .small, c .lowest .ensures .inside)
 is-servable-requires : tie.Need-is-servable-requires Inv-loop μ-loop
 is-servable-requires c κs = (c .before .lowest .ensures .small, c .before .before .before .before .before .before .before .before .pre)
 
+cast-at : tie.Need-cast-at Inv-loop μ-loop
+cast-at c = omega (arith, c .before .before .before .lowest .ensures .small)
+
+mul-lower-of : tie.Need-mul-lower-of Inv-loop μ-loop
+mul-lower-of c = omega (arith, c .before .before .before .lowest .ensures .small)
+
+element-copy-out-lower-of : tie.Need-element-copy-out-lower-of Inv-loop μ-loop
+element-copy-out-lower-of c = c .before .before .before .lowest .ensures .small
+
 lower-of-requires : tie.Need-lower-of-requires Inv-loop μ-loop
-lower-of-requires c κs = c .before .before .before .lowest .ensures .small
+lower-of-requires c κs = c .before .before .before .before .lowest .ensures .small
 
 loop-less : tie.Need-loop-less Inv-loop μ-loop
-loop-less c = omega (arith, removed-count _ _ _ 16 (c .before .before .before .before .lowest .ensures .small) (c .before .before .before .before .lowest .ensures .inside) (c .before .before .before .without .ensures))
+loop-less c = omega (arith, removed-count _ _ _ 16 (c .before .before .before .before .before .lowest .ensures .small) (c .before .before .before .before .before .lowest .ensures .inside) (c .before .before .before .before .without .ensures))
 
 loop-again : tie.Need-loop-again Inv-loop μ-loop
-loop-again c = low-step (c .before .before .before .before .before .before .loop .inv) _ (c .before .before .before .before .lowest .ensures .inside) (c .before .before .before .without .ensures) (sym (c .before .before .is-servable .ensures) ∙ c .before .if1 .taken) refl (c .lower-of .ensures)
+unfolding readingFor
+loop-again c = low-step (c .before .before .before .before .before .before .before .loop .inv) _ (c .before .before .before .before .before .lowest .ensures .inside) (c .before .before .before .before .without .ensures) (sym (c .before .before .before .is-servable .ensures) ∙ c .before .before .if1 .taken) refl (c .lower-of .ensures)
 
 loop-less-2 : tie.Need-loop-less-2 Inv-loop μ-loop
 loop-less-2 c = omega (arith, removed-count _ _ _ 16 (c .before .before .before .lowest .ensures .small) (c .before .before .before .lowest .ensures .inside) (c .before .before .without .ensures))
@@ -63,6 +73,9 @@ lowest-readings-spec =
     lowest-requires
     without-requires
     is-servable-requires
+    cast-at
+    mul-lower-of
+    element-copy-out-lower-of
     lower-of-requires
     loop-less
     loop-again

@@ -9,7 +9,8 @@ use denote.Ref.{now}
 use Rattle.laws.specs.First.{first-below}
 use Rattle.rules.specs.Cells.{nth, cellsOf}
 use Rattle.ideal.specs.Words.{length-cellsOf}
-use Rattle.queues.specs.Queues.{waitsFor, olderAt, But, Queues}
+use Rattle.queues.specs.Queues.{waitsFor, But, Queues}
+use Rattle.table.specs.Table.{olderAt}
 use Rattle.queues.specs.Chains.{Looked, looked-top, looked-on, looked-all}
 use Rattle.queues.proofs.look.Statement.{statement}
 use Rattle.queues.proofs.look.Tie as tie

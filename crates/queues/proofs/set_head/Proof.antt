@@ -4,8 +4,9 @@ use native.Mathlib.Omega.{arith}
 use native.Mathlib.Numerals.{add-one}
 use lib.ListN.{length-set}
 use Rattle.ports.specs.PortLaws.{added-kept}
+use Rattle.table.specs.Table.{below-at}
 use Rattle.queues.specs.Queues.{nameOf, isFound}
-use Rattle.queues.specs.Heads.{taken-out, head-set-at, head-unset, below-at}
+use Rattle.queues.specs.Heads.{taken-out, head-set-at, head-unset}
 use borrow.Author.Needs.{needs}
 use Rattle.queues.proofs.set_head.Statement.{statement}
 use Rattle.queues.proofs.set_head.Tie as tie

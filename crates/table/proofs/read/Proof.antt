@@ -1,20 +1,20 @@
 -- The counts of the records below k.
 use Prim.Native.Nat.{_≤_, _-_}
-use mathlib.Core.Path.{_≡_, ap₂, _∙_}
+use mathlib.Core.Path.{_≡_, ap, ap₂, _∙_}
 use native.Mathlib.Omega.{arith}
 use lib.ListN.{length, getD}
 use denote.Ref.{now}
 use Rattle.rules.specs.Cells.{cellsOf}
 use Rattle.ideal.specs.Words.{length-cellsOf}
-use Rattle.table.specs.Reading.{bumped, readingsBelow, readings-none, readings-more, readings-all, readings-le}
+use Rattle.table.specs.Reading.{bumped, readingsBelow, readings-none, readings-more, readings-all, readings-le, length-readings}
 use Rattle.table.proofs.read.Statement.{statement}
 use Rattle.table.proofs.read.Tie as tie
 
 abbrev Inv-loop : tie.InvT-loop
-Inv-loop table n r₀ k₀ r k = (k ≤ n) × (r .counts ≡ readingsBelow (cellsOf table) k)
+Inv-loop table n counts₀ k₀ counts k = (k ≤ n) × (counts ≡ readingsBelow (cellsOf table) k)
 
 abbrev μ-loop : tie.MeasureT-loop
-μ-loop table n r₀ k₀ r k = n - k
+μ-loop table n counts₀ k₀ counts k = n - k
 
 record-count-requires : tie.Need-record-count-requires Inv-loop μ-loop
 record-count-requires c κs = tt
@@ -27,9 +27,9 @@ cell-at-requires c κs = omega arith
 
 bump-requires : tie.Need-bump-requires Inv-loop μ-loop
 bump-requires c κs =
-    let h : getD (c .before .before .loop .r .counts) (c .cell-at .result .output .0) 0 ≤ c .before .before .loop .k
-    = rw (c .before .before .loop .inv .1) (readings-le _ _ _) in
-    omega arith
+    let e = c .before .before .before .loop .inv .1 in
+    let h : getD (c .before .before .before .loop .counts) (c .before .cell-at .result .output .0) 0 ≤ c .before .before .before .loop .k = rw e (readings-le _ _ _) in
+    (ap length e ∙ length-readings _ _, omega arith)
 
 add-k : tie.Need-add-k Inv-loop μ-loop
 add-k c = omega arith
@@ -38,7 +38,7 @@ loop-less : tie.Need-loop-less Inv-loop μ-loop
 loop-less c = omega arith
 
 loop-again : tie.Need-loop-again Inv-loop μ-loop
-loop-again c = (omega arith, c .bump .ensures ∙ ap₂ bumped (c .before .before .before .loop .inv .1) (c .before .cell-at .ensures) ∙ readings-more _ _)
+loop-again c = (omega arith, c .bump .ensures ∙ ap₂ bumped (c .before .before .before .before .loop .inv .1) (c .before .before .cell-at .ensures) ∙ readings-more _ _)
 
 returns : tie.Need-returns Inv-loop μ-loop
 returns c =
