@@ -1,12 +1,13 @@
 //! The plain slots do what the proved slot and the second program do, refusals too; so their times mean
 //! something.
 
-mod tables;
-
 use bench::states::{states, Setting, State};
 use bench::{proved, ranked, scans, text, SlotFn};
-use second::generate::{self, call, damage_table, Call, Damage, Era, Random, Shape};
-use tables::{cells, state, table, Cell};
+use second::generate::{
+    self, call, cells, damage_table, spread, valid_arrivals, Call, Damage, Era, Random, Record,
+    Shape, Slots, Traffic, Wanted,
+};
+use second::{Numbers, MOST_RECORDS};
 
 const PLAIN: [SlotFn; 2] = [scans::slot, ranked::slot];
 
@@ -44,6 +45,28 @@ fn of_call(call: Call) -> State {
         matches: call.matches,
         exhaled: call.exhaled,
     }
+}
+
+/// Half of the inputs bring a cell.
+fn state(random: &mut Random, [ports, speedup, next]: [u32; 3], table: Vec<u32>) -> State {
+    let traffic = Traffic {
+        load: 50,
+        first_output: 0,
+        outputs: ports,
+    };
+    let arrivals = valid_arrivals(random, ports, traffic);
+    let numbers = Numbers {
+        ports,
+        speedup,
+        next,
+    };
+    of_call(Call::new(random, numbers, table, arrivals))
+}
+
+/// Such cells for 16 ports in any records of the largest table.
+fn large_table(random: &mut Random, slots: Slots, wanted: &[Wanted]) -> Vec<u32> {
+    let cells = cells(random, 16, slots, wanted);
+    spread(random, MOST_RECORDS, &cells)
 }
 
 #[test]
@@ -113,15 +136,14 @@ fn all_slots_are_alike_on_any_number_of_waiting_cells() {
         for ready in [0, 1, 16, 1000] {
             for speedup in [1, 3, 8] {
                 for (input, output) in [(None, None), (Some(5), None), (None, Some(15))] {
-                    let of = |place| Cell {
+                    let of = |place| Wanted {
                         place,
                         input,
                         output,
                     };
                     let mut list = vec![of(1); waiting];
                     list.extend(vec![of(2); ready.min(1008 - waiting)]);
-                    let cells = cells(&mut random, 16, 5000, &list);
-                    let table = table(&mut random, 1024, &cells);
+                    let table = large_table(&mut random, Slots::before(5000), &list);
                     let s = state(&mut random, [16, speedup, 5000], table);
                     assert_eq!(agreed(&s), 0);
                 }
@@ -136,12 +158,11 @@ fn all_slots_are_alike_on_equal_readings() {
     let mut random = Random::new(13);
     for ready_each in [0, 1, 2, 30] {
         for waiting in [16, 60, 200, 500] {
-            let mut list = vec![Cell::waiting(); waiting];
+            let mut list = vec![Wanted::WAITING; waiting];
             for output in 0..16 {
-                list.extend(vec![Cell::ready_for(output); ready_each]);
+                list.extend(vec![Wanted::ready_for(output); ready_each]);
             }
-            let cells = cells(&mut random, 16, 80, &list);
-            let table = table(&mut random, 1024, &cells);
+            let table = large_table(&mut random, Slots::before(80), &list);
             for speedup in 1..=8 {
                 let s = state(&mut random, [16, speedup, 80], table.clone());
                 assert_eq!(agreed(&s), 0);
@@ -153,29 +174,21 @@ fn all_slots_are_alike_on_equal_readings() {
 /// Slots so far apart that marks kept by the low digits of a slot are met twice, without a twin and with.
 #[test]
 fn all_slots_are_alike_where_marks_are_met_twice() {
-    const NEXT: u32 = 1 << 21;
     let mut random = Random::new(14);
     for apart in [64, 1024, 2048] {
-        for live in [2, 3, 40, 65, 500, 1000] {
-            let cells: Vec<[u32; 5]> = (0..live)
-                .map(|n| {
-                    [
-                        random.between(1, 2),
-                        3,
-                        random.between(0, 15),
-                        NEXT - 1 - n * apart,
-                        n,
-                    ]
-                })
+        for count in [2, 3, 40, 65, 500, 1000] {
+            let slots = Slots {
+                first: 0,
+                apart,
+                count,
+            };
+            let list: Vec<Wanted> = (0..count)
+                .map(|_| Wanted::live(&mut random, Some(3)))
                 .collect();
-            let fit = table(&mut random, 1024, &cells);
-            let s = state(&mut random, [16, 3, NEXT], fit);
+            let table = large_table(&mut random, slots, &list);
+            let mut s = state(&mut random, [16, 3, slots.next()], table);
             assert_eq!(agreed(&s), 0);
-            let mut twins = cells;
-            let (one, other) = (random.index(live as usize - 1), live as usize - 1);
-            twins[other][3] = twins[one][3];
-            let unfit = table(&mut random, 1024, &twins);
-            let s = state(&mut random, [16, 3, NEXT], unfit);
+            damage_table(&mut random, Damage::Twins, 16, slots.next(), &mut s.table);
             assert_eq!(agreed(&s), 4);
         }
     }
@@ -184,8 +197,9 @@ fn all_slots_are_alike_where_marks_are_met_twice() {
 #[test]
 fn all_slots_are_alike_in_slot_0() {
     let mut random = Random::new(16);
-    for (cells, number) in [(vec![], 0), (vec![[1, 0, 0, 0, 5]], 4)] {
-        let table = table(&mut random, 20, &cells);
+    let cell: Record = [1, 0, 0, 0, 5];
+    for (cells, number) in [(vec![], 0), (vec![cell], 4)] {
+        let table = spread(&mut random, 20, &cells);
         let s = state(&mut random, [2, 3, 0], table);
         assert_eq!(agreed(&s), number);
     }
@@ -195,8 +209,8 @@ fn all_slots_are_alike_in_slot_0() {
 fn all_slots_are_alike_in_refusals_of_large_tables() {
     let mut random = Random::new(15);
     for live in [0, 40, 500, 1024] {
-        let cells = cells(&mut random, 16, 3000, &vec![Cell::waiting(); live]);
-        let table = table(&mut random, 1024, &cells);
+        let list = vec![Wanted::WAITING; live];
+        let table = large_table(&mut random, Slots::before(3000), &list);
         let mut s = state(&mut random, [16, 3, 3000], table);
         s.arrivals = [1, 7].repeat(16);
         assert_eq!(agreed(&s), if live == 1024 { 8 } else { 0 });

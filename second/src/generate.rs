@@ -2,13 +2,15 @@
 //! so that a difference once found can be found again.
 
 mod calls;
+mod chosen;
 mod tables;
 mod texts;
 
 pub use calls::{
-    any_words, arrivals, call, next_slot, numbers, records, spoil_arrivals, spoil_length, table,
-    tag, valid_arrivals, valid_numbers, Call, Traffic,
+    any_words, arrivals, call, next_slot, numbers, records, spoil_arrivals, spoil_length,
+    spoil_some_length, table, tag, valid_arrivals, valid_numbers, Call, Traffic,
 };
+pub use chosen::{cells, spread, Record, Slots, Wanted};
 pub use tables::{damage_table, fit_table, shaped_table, Damage, Era, Shape};
 pub use texts::{damaged_text, good_text, soup, text, TextDamage};
 

@@ -2,8 +2,9 @@
 //! reach every number of document 01.
 
 use second::generate::{
-    arrivals, call, damage_table, fit_table, records, shaped_table, spoil_arrivals, spoil_length,
-    valid_arrivals, valid_numbers, Damage, Era, Random, Shape, Traffic,
+    arrivals, call, cells, damage_table, fit_table, records, shaped_table, spoil_arrivals,
+    spoil_length, spread, valid_arrivals, valid_numbers, Damage, Era, Random, Shape, Slots,
+    Traffic, Wanted,
 };
 use second::{slot, Numbers, EXHALED_WORDS, MOST_RECORDS, RECORD_WORDS};
 
@@ -63,6 +64,34 @@ fn shapes_are_as_asked() {
     assert!(live(&empty).is_empty());
     let before_time = shaped_table(&mut random, 4, 0, 60, Shape::full(60, Era::Last));
     assert!(live(&before_time).is_empty());
+}
+
+#[test]
+fn chosen_cells_are_as_asked() {
+    let mut random = Random::new(10);
+    let slots = Slots {
+        first: 7,
+        apart: 1_024,
+        count: 40,
+    };
+    let from_one = Wanted {
+        input: Some(3),
+        ..Wanted::WAITING
+    };
+    let wanted = [vec![from_one; 40], vec![Wanted::ready_for(2); 20]].concat();
+    let chosen = cells(&mut random, 4, slots, &wanted);
+    let table = spread(&mut random, 64, &chosen);
+    assert_eq!(live(&table), chosen);
+    let w = Numbers {
+        ports: 4,
+        speedup: 3,
+        next: slots.next(),
+    };
+    assert!(is_fit(w, &table) && w.next == 7 + 39 * 1_024 + 1);
+    let waiting: Vec<_> = chosen.iter().filter(|cell| cell[0] == 1).collect();
+    assert!(waiting.len() == 40 && waiting.iter().all(|cell| cell[1] == 3));
+    let ready: Vec<_> = chosen.iter().filter(|cell| cell[0] == 2).collect();
+    assert!(ready.len() == 20 && ready.iter().all(|cell| cell[2] == 2));
 }
 
 #[test]

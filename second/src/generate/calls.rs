@@ -16,6 +16,21 @@ pub struct Call {
     pub exhaled: Vec<u32>,
 }
 
+impl Call {
+    /// The lists to be written have the lengths that go with the numbers, and any words in them.
+    pub fn new(random: &mut Random, numbers: Numbers, table: Vec<u32>, arrivals: Vec<u32>) -> Call {
+        let ports = sane_ports(numbers) as usize;
+        let speedup = numbers.speedup.clamp(1, MOST_SPEEDUP) as usize;
+        Call {
+            numbers,
+            table,
+            arrivals,
+            matches: any_words(random, speedup * ports),
+            exhaled: any_words(random, EXHALED_WORDS * ports),
+        }
+    }
+}
+
 /// How often an input brings a cell, of a hundred slots, and the outputs that cells go to: so
 /// many from this first one on, round after the last port.
 #[derive(Clone, Copy, PartialEq, Eq, Debug)]
@@ -40,23 +55,11 @@ pub fn call(random: &mut Random) -> Call {
     let numbers = numbers(random);
     let table = table(random, numbers);
     let arrivals = arrivals(random, numbers.ports);
-    let ports = sane_ports(numbers) as usize;
-    let speedup = numbers.speedup.clamp(1, MOST_SPEEDUP) as usize;
-    let matches = any_words(random, speedup * ports);
-    let exhaled = any_words(random, EXHALED_WORDS * ports);
-    let mut lists = [arrivals, matches, exhaled];
+    let mut call = Call::new(random, numbers, table, arrivals);
     if random.one_in(10) {
-        let list = random.index(lists.len());
-        spoil_length(random, &mut lists[list]);
+        spoil_some_length(random, &mut call);
     }
-    let [arrivals, matches, exhaled] = lists;
-    Call {
-        numbers,
-        table,
-        arrivals,
-        matches,
-        exhaled,
-    }
+    call
 }
 
 /// N, S and t, mostly valid.
@@ -166,6 +169,13 @@ pub fn valid_arrivals(random: &mut Random, ports: u32, traffic: Traffic) -> Vec<
 pub fn spoil_arrivals(random: &mut Random, ports: u32, arrivals: &mut [u32]) {
     let input = random.index(arrivals.len() / ARRIVAL_WORDS);
     arrivals[input * ARRIVAL_WORDS] = random.pick(&[ports + 1, ports + 2, 1 << 16, u32::MAX]);
+}
+
+/// Gives one of the three lists another length than it has.
+pub fn spoil_some_length(random: &mut Random, call: &mut Call) {
+    let lists = [&mut call.arrivals, &mut call.matches, &mut call.exhaled];
+    let list = random.index(lists.len());
+    spoil_length(random, lists[list]);
 }
 
 /// Gives a list another length than it has.

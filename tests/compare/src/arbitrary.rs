@@ -1,10 +1,10 @@
 //! Calls that stand by themselves: any numbers, any table, lists of any length with any words.
 
 use second::generate::{
-    any_words, arrivals, call, damage_table, fit_table, numbers, shaped_table, spoil_length, Call,
+    arrivals, call, damage_table, fit_table, numbers, shaped_table, spoil_some_length, Call,
     Damage, Era, Random, Shape,
 };
-use second::{Numbers, EXHALED_WORDS, MOST_PORTS, MOST_SPEEDUP};
+use second::{Numbers, MOST_PORTS};
 
 use crate::both::{self, Tally};
 
@@ -36,18 +36,11 @@ fn next_call(random: &mut Random) -> Call {
 fn short_call(random: &mut Random) -> Call {
     let w = numbers(random);
     let ports = w.ports.clamp(1, MOST_PORTS);
-    let speedup = w.speedup.clamp(1, MOST_SPEEDUP);
-    let mut call = Call {
-        numbers: w,
-        table: short_table(random, w, ports),
-        arrivals: arrivals(random, ports),
-        matches: any_words(random, (speedup * ports) as usize),
-        exhaled: any_words(random, EXHALED_WORDS * ports as usize),
-    };
+    let table = short_table(random, w, ports);
+    let arrivals = arrivals(random, ports);
+    let mut call = Call::new(random, w, table, arrivals);
     if random.one_in(12) {
-        let lists = [&mut call.arrivals, &mut call.matches, &mut call.exhaled];
-        let at = random.index(lists.len());
-        spoil_length(random, lists.into_iter().nth(at).expect("one of three"));
+        spoil_some_length(random, &mut call);
     }
     call
 }

@@ -19,6 +19,10 @@ impl Tally {
         self.times.iter().sum()
     }
 
+    pub fn accepted(&self) -> u64 {
+        self.times[0]
+    }
+
     pub fn numbers(&self) -> impl Iterator<Item = (usize, u64)> + '_ {
         self.times.iter().copied().enumerate()
     }

@@ -1,7 +1,7 @@
-//! Compares the proved library with the independent second program, word for word, on random calls
-//! and on runs from fresh starts; or the proved program with it, on texts.
+//! Compares the proved library with the independent second program, word for word, on random calls,
+//! on runs from fresh starts and on special calls; or the proved program with it, on texts.
 //!
-//!     compare                 as many slot calls as SLOTS says, or a million
+//!     compare                 as many random slot calls as SLOTS says, or a million, and the special ones
 //!     compare texts PROGRAM   a few hundred texts
 //!
 //! All that is random comes from fixed seeds. A difference ends the comparison with the call, or the
@@ -10,6 +10,7 @@
 mod arbitrary;
 mod both;
 mod runs;
+mod special;
 mod texts;
 
 use std::env;
@@ -28,7 +29,10 @@ fn main() {
         .collect::<Vec<_>>()
         .as_slice()
     {
-        [] => compare_calls(wanted_slots()),
+        [] => {
+            compare_calls(wanted_slots());
+            special::compare();
+        }
         ["texts", program] => texts::compare(program),
         _ => panic!("usage: compare, or compare texts PROGRAM"),
     }

@@ -99,14 +99,7 @@ impl Run {
     }
 
     fn call(&self, random: &mut Random, arrivals: Vec<u32>) -> Call {
-        let ports = self.numbers.ports as usize;
-        Call {
-            numbers: self.numbers,
-            table: self.table.clone(),
-            arrivals,
-            matches: any_words(random, self.numbers.speedup as usize * ports),
-            exhaled: any_words(random, EXHALED_WORDS * ports),
-        }
+        Call::new(random, self.numbers, self.table.clone(), arrivals)
     }
 
     /// One call of a slot; a refusal for want of room is a refused call like any other.
