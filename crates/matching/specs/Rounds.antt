@@ -1,19 +1,19 @@
 -- A round by the queues' heads: the outputs with the lowest reading among those that can be served, the first cell for each, the first of these.
 -- Assumes nothing.
-use Prim.Native.Nat.{ℕ, zero, suc, _^_, _≤_, _<_}
-use mathlib.Core.Path.{_≡_, refl, sym, ap, ap₂, _∙_, subst}
+use Prim.Native.Nat.{ℕ, _^_, _≤_, _<_}
+use mathlib.Core.Path.{_≡_, refl, sym, ap, _∙_, subst}
 use mathlib.Core.Logic.{_⊎_, inl, inr, ⊎-elim}
 use mathlib.Core.Bool.{Bool, So, true, false, not, _&&_, false≢true, and-true, and-not-self}
 use mathlib.Core.List.{List}
 use native.Mathlib.Omega.{arith}
-use lib.Dec.{eqb, ltb}
-use lib.ListN.{length, getD}
+use lib.Dec.{eqb}
+use lib.ListN.{length}
 use borrow.Author.Tests.{eqb-true, eqb-false, eq-eqb}
-use Rattle.laws.specs.Tests.{No, passes, refuted, to-no, both, join, denied, deny, fails-right}
+use Rattle.laws.specs.Tests.{No, passes, refuted, to-no, both, join, denied, deny}
 use Rattle.laws.specs.Count.{any, any→, →any}
 use Rattle.laws.specs.Order.{lower, lower-below, lower-equal, ranks-on}
 use Rattle.laws.specs.Least.{least, Below}
-use Rattle.laws.specs.First.{Ahead, First, firstFound, firstFound-below, first-join, first-alike, first-least, first-below, least-first}
+use Rattle.laws.specs.First.{Ahead, First, firstFound, first-join, first-alike, first-least, first-below, least-first}
 use Rattle.laws.specs.declared.Found.{Found}
 use Rattle.laws.specs.declared.Found.the-variants.{At, Nothing}
 use Rattle.ports.specs.Ports.{has, Added, Removed, Except}

@@ -1,17 +1,17 @@
 -- The chains: a record joins the top of its pair's, and from the top down each record of the pair is met.
 -- Assumes nothing.
-use Prim.Native.Nat.{ℕ, zero, suc, _+_, _*_, _<_, _≤_}
+use Prim.Native.Nat.{ℕ, suc, _+_, _<_, _≤_}
 use mathlib.Core.Path.{_≡_, refl, sym, ap, _∙_, subst}
 use mathlib.Core.Logic.{_⊎_, inl, inr, ⊎-elim}
 use mathlib.Core.Bool.{Bool, So, true, false, not, cond, _&&_}
 use mathlib.Core.List.{List}
 use native.Mathlib.Omega.{arith}
 use native.Mathlib.Numerals.{add-one}
-use borrow.Author.Tests.{eqb-true, eqb-false, eq-eqb, ltb-true, ltb-false, le-ltb, lt-ltb}
+use borrow.Author.Tests.{eqb-true, eqb-false, ltb-true, ltb-false, le-ltb}
 use lib.Dec.{eqb, ltb}
 use lib.ListN.{length, getD, set, length-set, replicate, getD-replicate}
 use lib.Seq.{getD-set-same, getD-set-other}
-use Rattle.laws.specs.Tests.{No, passes, refuted, to-no, both, join, deny, denied, cond-true, cond-false, eqb-self}
+use Rattle.laws.specs.Tests.{No, passes, refuted, both, join, deny, denied, cond-true, cond-false, eqb-self}
 use Rattle.laws.specs.Walk.{below-suc}
 use Rattle.laws.specs.Order.{ranks-on}
 use Rattle.laws.specs.First.{First, firstFound, first-join, first-least, first-alike}
@@ -21,7 +21,7 @@ use Rattle.rules.specs.declared.Cell.{Cell}
 use Rattle.rules.specs.Cells.{nth, isWaiting, older}
 use Rattle.ideal.specs.Cells.{older-ranks}
 use Rattle.table.specs.Table.{olderAt}
-use Rattle.queues.specs.Queues.{pair, pairOf, queueWords, topWord, nextWord, waitsFor, waits→, →waits, headBelow, headOf, Link, Chains, Ports, Queues, waitingAt, classOf}
+use Rattle.queues.specs.Queues.{pair, pairOf, queueWords, topWord, nextWord, waitsFor, waits→, →waits, headBelow, headOf, Link, Chains, Queues, waitingAt, classOf}
 
 -- a record of another pair is no member
 link-on : {cl : ℕ → ℕ} {p k v : ℕ} → Link cl p k v → (cl k ≡ p → ⊥) → Link cl p (k + 1) v

@@ -1,18 +1,17 @@
 -- The heads: what a new one leaves of the others, and how they change where a record joins or a cell is picked.
 -- Assumes nothing.
-use Prim.Native.Nat.{ℕ, zero, suc, _+_, _*_, _<_, _≤_}
+use Prim.Native.Nat.{ℕ, suc, _+_, _<_, _≤_}
 use mathlib.Core.Path.{_≡_, refl, sym, ap, _∙_, subst}
-use mathlib.Core.Logic.{_⊎_, inl, inr, ⊎-elim}
+use mathlib.Core.Logic.{_⊎_, ⊎-elim}
 use mathlib.Core.Bool.{Bool, So, true, false, not, cond, _&&_, and-true, false≢true}
 use mathlib.Core.List.{List}
 use native.Mathlib.Omega.{arith}
-use native.Mathlib.Numerals.{add-one}
 use borrow.Author.Tests.{eqb-true, eqb-false, eq-eqb, ne-eqb}
 use lib.Dec.{eqb}
-use lib.ListN.{length, getD, set, length-set, replicate, getD-replicate, length-replicate}
+use lib.ListN.{length, getD, set, length-set, replicate, getD-replicate}
 use lib.Seq.{getD-set-same, getD-set-other, set-getD}
 use Rattle.laws.specs.Tests.{No, passes, refuted, to-no, fails-right, same-test, cond-true, cond-false}
-use Rattle.laws.specs.Least.{least, least-zero, least-more, least-below, least-same, Below, sooner, sooner-skip}
+use Rattle.laws.specs.Least.{least-zero, least-more, least-below, least-same, Below, sooner, sooner-skip}
 use Rattle.laws.specs.First.{firstFound, firstFound-sooner, firstFound-below}
 use Rattle.laws.specs.declared.Found.{Found}
 use Rattle.laws.specs.declared.Found.the-variants.{At, Nothing}
@@ -23,7 +22,7 @@ use Rattle.rules.specs.Cells.{free, nth, placed, isWaiting, records, cellsOf}
 use Rattle.ideal.specs.Cells.{Same, older-same}
 use Rattle.ideal.specs.Words.{length-cellsOf}
 use Rattle.table.specs.Table.{olderAt, below-more}
-use Rattle.queues.specs.Queues.{pair, pairOf, named, nameOf, named-name, isFound, queueWords, headWord, topWord, nextWord, senders, wanted, waitsFor, waits→, →waits, headBelow, headOf, Chains, Heads, All, But, Ports, Queues, waitingAt, classOf, HeadSet}
+use Rattle.queues.specs.Queues.{pair, pairOf, named, nameOf, named-name, isFound, queueWords, headWord, topWord, senders, wanted, waitsFor, waits→, →waits, headBelow, headOf, Chains, Heads, All, But, Ports, Queues, waitingAt, classOf, HeadSet}
 use Rattle.queues.specs.Chains.{chains-kept, chains-link, class-waiting}
 
 -- A new head ----------------------------------------------------------------------------------
