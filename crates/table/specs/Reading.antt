@@ -1,15 +1,15 @@
 -- The reading, counted record by record.
 -- Assumes nothing.
-use Prim.Native.Nat.{ℕ, _+_, _≤_, _<_}
+use Prim.Native.Nat.{ℕ, _+_, _%_, _≤_, _<_}
 use mathlib.Core.Path.{_≡_, refl, sym, ap, _∙_}
 use mathlib.Core.Logic.{⊎-elim}
-use mathlib.Core.Bool.{Bool, true, false, cond, _&&_}
+use mathlib.Core.Bool.{Bool, true, false, cond, _&&_, and-true}
 use mathlib.Core.List.{List}
 use native.Mathlib.Omega.{arith}
 use native.Mathlib.Numerals.{add-one}
 use lib.Dec.{eqb, ltb}
 use lib.ListN.{length, getD, set, replicate, getD-replicate, List·getD-eq-default}
-use lib.Seq.{ext-getD}
+use lib.Seq.{ext-getD, set-getD}
 use borrow.Author.Tests.{eqb-true, eqb-false, eq-eqb, ne-eqb, ltb-true, ltb-false}
 use Rattle.laws.specs.Tests.{No, both, passes, to-no}
 use Rattle.laws.specs.Count.{bit, count, count-zero, count-suc, count-le}
@@ -21,6 +21,10 @@ use Rattle.rules.specs.Phases.{readyCount, readings}
 pub bit-le : (b : Bool) → bit b ≤ 1
 bit-le true = omega arith
 bit-le false = omega arith
+
+-- a cell that is ready for some output
+unfoldable pub isCounted : Cell → Bool
+isCounted c = isReady c && ltb (c .output .0) mostPorts
 
 -- one more for each output that c is ready for
 unfoldable pub bumped : List ℕ → Cell → List ℕ
@@ -36,26 +40,39 @@ module _ (ns : List ℕ) (e : length ns ≡ mostPorts) (c : Cell) where
   unfolding isReadyFor isReady
   not-ready h = bump-none (λ o l. rw (ne-eqb _ _ h))
 
-  pub no-such-output : mostPorts ≤ c .output .0 → ns ≡ bumped ns c
+  no-such-output : mostPorts ≤ c .output .0 → ns ≡ bumped ns c
   unfolding isReadyFor sameOutput
   no-such-output h = bump-none (λ o l. to-no (λ x. omega (arith, eqb-true (c .output .0) o (both (isReady c) _ x .1))))
 
   -- a ready cell is one more for its output, and no other is
-  pub bump-one : set ns (c .output .0) (getD ns (c .output .0) 0 + bit (isReady c)) ≡ bumped ns c
+  here : (b : Bool) (n m : ℕ) → n ≡ m → n + bit b ≡ bit (b && true) + m
+  here true n m h = omega arith
+  here false n m h = omega arith
+
+  there : (b : Bool) (n : ℕ) → n ≡ bit (b && false) + n
+  there true n = omega arith
+  there false n = omega arith
+
+  one-more : set ns (c .output .0) (getD ns (c .output .0) 0 + bit (isReady c)) ≡ bumped ns c
   unfolding bumped isReadyFor sameOutput
-  bump-one = rw e at (set-tabulate 0 ns (c .output .0) (getD ns (c .output .0) 0 + bit (isReady c))) ∙ tabulate-same 0 _ _ mostPorts (λ o l. go o (eqb o (c .output .0)) refl)
+  one-more = rw e at (set-tabulate 0 ns (c .output .0) (getD ns (c .output .0) 0 + bit (isReady c))) ∙ tabulate-same 0 _ _ mostPorts (λ o l. go o (eqb o (c .output .0)) refl)
     where
-      here : (b : Bool) (n m : ℕ) → n ≡ m → n + bit b ≡ bit (b && true) + m
-      here true n m h = omega arith
-      here false n m h = omega arith
-
-      there : (b : Bool) (n : ℕ) → n ≡ bit (b && false) + n
-      there true n = omega arith
-      there false n = omega arith
-
       go : (o : ℕ) (b : Bool) → eqb o (c .output .0) ≡ b → cond b (getD ns (c .output .0) 0 + bit (isReady c)) (getD ns o 0) ≡ bit (isReady c && eqb (c .output .0) o) + getD ns o 0
       go o true q = let h : o ≡ c .output .0 = eqb-true _ _ q in rw (eq-eqb (c .output .0) o (sym h)) (here (isReady c) _ _ (ap (λ (x : ℕ). getD ns x 0) (sym h)))
       go o false q = rw (ne-eqb (c .output .0) o (λ h. eqb-false _ _ q (sym h))) (there (isReady c) (getD ns o 0))
+
+  -- the code's count, at a number that is an output's in any case
+  pub bump-one : set ns (c .output .0 % 16) (getD ns (c .output .0 % 16) 0 + bit (isCounted c)) ≡ bumped ns c
+  unfolding isCounted
+  bump-one = ⊎-elim (λ x. small (ltb-true _ _ x) x) (λ x. large (ltb-false _ _ x) x) (passes (ltb (c .output .0) mostPorts))
+    where
+      small : c .output .0 < mostPorts → ltb (c .output .0) mostPorts ≡ true → set ns (c .output .0 % 16) (getD ns (c .output .0 % 16) 0 + bit (isReady c && ltb (c .output .0) mostPorts)) ≡ bumped ns c
+      small l x = let q : c .output .0 % 16 ≡ c .output .0 = omega arith in rw (q, x, and-true (isReady c)) one-more
+
+      large : mostPorts ≤ c .output .0 → ltb (c .output .0) mostPorts ≡ false → set ns (c .output .0 % 16) (getD ns (c .output .0 % 16) 0 + bit (isReady c && ltb (c .output .0) mostPorts)) ≡ bumped ns c
+      large l x =
+          let z : getD ns (c .output .0 % 16) 0 + bit (isReady c && false) ≡ getD ns (c .output .0 % 16) 0 = let d = there (isReady c) (getD ns (c .output .0 % 16) 0) in omega arith in
+          rw (x, z) (set-getD ns (c .output .0 % 16) 0 ∙ no-such-output l)
 
 -- the ready cells of output o below record k, and all outputs' counts of them
 abbrev readyBelow : List Cell → ℕ → ℕ → ℕ

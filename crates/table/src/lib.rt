@@ -6,17 +6,17 @@ use rules::Input;
 use rules::Output;
 use rules::Slot;
 ghost use mathlib.Core.Path.{_≡_};
-ghost use Prim.Native.Nat.{_+_, _<_, _≤_};
+ghost use Prim.Native.Nat.{_+_, _%_, _<_, _≤_};
 ghost use lib.ListN.{length, getD, replicate};
 ghost use Rattle.laws.specs.Least.{Below, sooner};
 ghost use Rattle.laws.specs.Count.{bit};
 ghost use Rattle.laws.specs.First.{firstFound};
-ghost use Rattle.rules.specs.Cells.{free, placed, nth, records, isWhole, cellsOf, isReady, isReadyFor, isBlank, isSound, sameEntry, isAlone, fit, older};
+ghost use Rattle.rules.specs.Cells.{free, placed, nth, records, isWhole, cellsOf, isReadyFor, isBlank, isSound, sameEntry, isAlone, fit, older};
 ghost use Rattle.rules.specs.Answers.{live};
 ghost use Rattle.rules.specs.Phases.{lowestFree, readings, oldestReady};
 ghost use Rattle.table.specs.Table.{Stored, NoneBelow, olderAt};
 ghost use Rattle.table.specs.Blocks.{OrOf, FreeBlock};
-ghost use Rattle.table.specs.Reading.{bumped};
+ghost use Rattle.table.specs.Reading.{bumped, isCounted};
 ghost use Rattle.table.specs.Marks.{Seen, Marked};
 
 pub fn record_count(table: &[u32]) -> usize
@@ -262,30 +262,30 @@ pub struct Reading {
     pub counts: [u32; 16],
 }
 
-fn one_if_ready(c: Cell) -> u32
-    ensures { λ r. ⌜ r ≡ bit (isReady c) ⌝ }
+fn one_if_counted(c: Cell) -> u32
+    ensures { λ r. ⌜ r ≡ bit (isCounted c) ⌝ }
 {
     if c.place != 2 {
+        return 0;
+    }
+    if 16 <= c.output.0 {
         return 0;
     }
     1
 }
 
-// One more for the cell's output, where the cell is ready. Waiting and ready cells are mixed in the table: no branch tells them apart.
+// One more for the cell's output, where the cell is ready. Free records are left at once; waiting and ready cells are mixed in the table, and no
+// branch tells them apart.
 fn bump(counts: &mut [u32; 16], c: Cell)
     requires { ⌜ length (now counts) ≡ 16 ⌝ }
-    requires { ⌜ getD (now counts) (c .output .0) 0 < 1024 ⌝ }
+    requires { ⌜ getD (now counts) (c .output .0 % 16) 0 < 1024 ⌝ }
     ensures { λ _. ⌜ now (counts .exit) ≡ bumped (now (counts .entry)) c ⌝ }
 {
     if c.place == 0 {
         return;
     }
-    let o = c.output.0;
-    if 16 <= o {
-        return;
-    }
-    let at = o as usize;
-    counts[at] = counts[at] + one_if_ready(c);
+    let at = (c.output.0 % 16) as usize;
+    counts[at] = counts[at] + one_if_counted(c);
 }
 
 pub fn read(table: &[u32]) -> Reading

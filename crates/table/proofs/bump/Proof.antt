@@ -1,16 +1,12 @@
--- A free record, or one for a number that no output has, changes nothing.
+-- A free record changes nothing; another is counted by 0 or 1.
 use native.Mathlib.Omega.{arith}
-use Rattle.rules.specs.Cells.{isReady}
-use Rattle.table.specs.Reading.{bit-le, not-ready, no-such-output, bump-one}
+use Rattle.table.specs.Reading.{bit-le, isCounted, not-ready, bump-one}
 use borrow.Author.Needs.{needs}
 use Rattle.table.proofs.bump.Statement.{statement}
 use Rattle.table.proofs.bump.Tie as tie
 
 returns : tie.Need-returns
 returns c = not-ready _ (c .before .before .pre .0) _ (λ r. omega (arith, r, c .if1 .taken))
-
-returns-2 : tie.Need-returns-2
-returns-2 c = no-such-output _ (c .before .before .before .pre .0) _ (c .if2 .taken)
 
 cast-at : tie.Need-cast-at
 cast-at c = search needs
@@ -21,11 +17,11 @@ mul-counts c = search needs
 element-copy-out-counts : tie.Need-element-copy-out-counts
 element-copy-out-counts c = search needs
 
-one-if-ready-requires : tie.Need-one-if-ready-requires
-one-if-ready-requires c κs = search needs
+one-if-counted-requires : tie.Need-one-if-counted-requires
+one-if-counted-requires c κs = search needs
 
 add-counts : tie.Need-add-counts
-add-counts c = record { fits = omega (arith, c .one-if-ready .ensures, bit-le (isReady (c .before .before .before .before .before .args .c)), c .before .before .before .before .before .pre .1) }
+add-counts c = record { fits = omega (arith, c .one-if-counted .ensures, bit-le (isCounted (c .before .before .before .before .before .args .c)), c .before .before .before .before .before .pre .1) }
 
 mul-counts-2 : tie.Need-mul-counts-2
 mul-counts-2 c = search needs
@@ -33,20 +29,19 @@ mul-counts-2 c = search needs
 element-write-counts : tie.Need-element-write-counts
 element-write-counts c = search needs
 
-returns-3 : tie.Need-returns-3
-returns-3 c = rw (c .one-if-ready .ensures) (bump-one _ (c .before .before .before .before .before .pre .0) _)
+returns-2 : tie.Need-returns-2
+returns-2 c = rw (c .one-if-counted .ensures) (bump-one _ (c .before .before .before .before .before .pre .0) _)
 
 pub bump-spec : {M : Type 1} → statement M
 bump-spec =
     tie.close
     (tie.spec
     returns
-    returns-2
     cast-at
     mul-counts
     element-copy-out-counts
-    one-if-ready-requires
+    one-if-counted-requires
     add-counts
     mul-counts-2
     element-write-counts
-    returns-3)
+    returns-2)

@@ -1,5 +1,5 @@
 -- The counts of the records below k.
-use Prim.Native.Nat.{_≤_, _-_}
+use Prim.Native.Nat.{_≤_, _-_, _%_}
 use mathlib.Core.Path.{_≡_, ap, ap₂, _∙_}
 use native.Mathlib.Omega.{arith}
 use lib.ListN.{length, getD}
@@ -28,7 +28,7 @@ cell-at-requires c κs = omega arith
 bump-requires : tie.Need-bump-requires Inv-loop μ-loop
 bump-requires c κs =
     let e = c .before .before .before .loop .inv .1 in
-    let h : getD (c .before .before .before .loop .counts) (c .before .cell-at .result .output .0) 0 ≤ c .before .before .before .loop .k = rw e (readings-le _ _ _) in
+    let h : getD (c .before .before .before .loop .counts) (c .before .cell-at .result .output .0 % 16) 0 ≤ c .before .before .before .loop .k = rw e (readings-le _ _ _) in
     (ap length e ∙ length-readings _ _, omega arith)
 
 add-k : tie.Need-add-k Inv-loop μ-loop
