@@ -41,7 +41,7 @@ fn first_for(table: &[u32], queues: &[u16], inputs: u16, o: u32) -> Found
     found
 }
 
-// Whether there is such a cell.
+// Whether there is such a cell. The table is lent so that the contract can name it; the queues alone are read.
 fn is_servable(table: &[u32], queues: &[u16], inputs: u16, o: u32) -> bool
     requires { ⌜ o < 16 ⌝ }
     requires { ⌜ Queues All (cellsOf (now table)) (now queues) ⌝ }

@@ -5,7 +5,6 @@
 // last a set that has every output with such an input.
 // A record is named by its number + 1, and 0 names none.
 use laws::Found;
-use rules::Cell;
 ghost use mathlib.Core.Path.{_≡_};
 ghost use Prim.Native.Nat.{suc, _+_, _*_, _<_, _≤_};
 ghost use lib.ListN.{length, set, replicate};
@@ -13,7 +12,7 @@ ghost use Rattle.laws.specs.Least.{Below};
 ghost use Rattle.laws.specs.First.{firstFound};
 ghost use Rattle.rules.specs.Cells.{records, cellsOf};
 ghost use Rattle.table.specs.Table.{olderAt};
-ghost use Rattle.queues.specs.Queues.{pair, named, nameOf, queueWords, headWord, topWord, senders, wanted, headOf, Chains, Heads, All, But, Queues, HeadSet, classOf, Ports, waitingAt};
+ghost use Rattle.queues.specs.Queues.{pair, named, queueWords, headWord, topWord, senders, wanted, headOf, Chains, Heads, All, But, Queues, HeadSet, classOf, Ports, waitingAt};
 
 // Where the words of a pair stand.
 fn pair_of(i: u32, o: u32) -> usize
