@@ -32,6 +32,7 @@ the fit check, the count of live cells, the reading and the lining up of the que
 `switch`, which this left alone. Then come the rounds, whose branches go either way: which outputs can be served, which head is older.
 - The exhale passes over the table once for each output, until that is one pass (document 02, L4). That is most of a slot on the large switch,\n  \
 and what the program at N 16 misses its goal by.
+- The program reads and prints pieces of 64 KiB, but each byte of a slot's line is a step, and the step is a call: the work could be done a field.
 
 ## In the machine code
 
