@@ -61,6 +61,11 @@ pub same-records : (ws vs : List ℕ) → length ws ≡ length vs → records ws
 unfolding records
 same-records ws vs e = ap (λ (n : ℕ). n / width) e
 
+-- so many records are so many words
+pub in-words : (ws : List ℕ) {n : ℕ} → n ≤ records ws → n * width ≤ length ws
+unfolding records
+in-words ws l = omega arith
+
 -- whole words are known by their records
 field-at : (ws vs : List ℕ) (k r : ℕ) → r < width → cellAt ws k ≡ cellAt vs k → getD ws (k * width + r) 0 ≡ getD vs (k * width + r) 0
 field-at ws vs k zero l e = rw add-zero (ap (λ (c : Cell). c .place) e)

@@ -16,6 +16,10 @@ abbrev pub bit : Bool → ℕ
 bit true = 1
 bit false = 0
 
+pub bit-le : (b : Bool) → bit b ≤ 1
+bit-le true = omega arith
+bit-le false = omega arith
+
 -- how many of the numbers below n pass p
 unfoldable pub count : (ℕ → Bool) → ℕ → ℕ
 count p n = over (λ k c. bit (p k) + c) 0 n

@@ -61,6 +61,13 @@ abbrev pub Below : ℕ → Found → Type 0
 Below n (At k) = k < n
 Below n Nothing = Unit {0}
 
+pub below-at : (n : ℕ) (x : Found) (k : ℕ) → x ≡ At k → Below n x → k < n
+below-at n x k e h = rw e at h
+
+pub below-wider : (k n : ℕ) (x : Found) → k ≤ n → Below k x → Below n x
+below-wider k n (At j) l h = omega arith
+below-wider k n Nothing l h = tt
+
 module _ (p : ℕ → Bool) (before : ℕ → ℕ → Bool) where
   pub least-zero : least p before 0 ≡ Nothing
   unfolding least over

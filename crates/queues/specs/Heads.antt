@@ -11,7 +11,7 @@ use lib.Dec.{eqb}
 use lib.ListN.{length, getD, set, length-set, replicate, getD-replicate}
 use lib.Seq.{getD-set-same, getD-set-other, set-getD}
 use Rattle.laws.specs.Tests.{No, passes, refuted, to-no, fails-right, same-test, cond-true, cond-false}
-use Rattle.laws.specs.Least.{least-zero, least-more, least-below, least-same, Below, sooner, sooner-skip}
+use Rattle.laws.specs.Least.{least-zero, least-more, least-below, least-same, Below, below-wider, sooner, sooner-skip}
 use Rattle.laws.specs.First.{firstFound, firstFound-sooner, firstFound-below}
 use Rattle.laws.specs.declared.Found.{Found}
 use Rattle.laws.specs.declared.Found.the-variants.{At, Nothing}
@@ -21,7 +21,7 @@ use Rattle.rules.specs.declared.Cell.{Cell}
 use Rattle.rules.specs.Cells.{free, nth, placed, isWaiting, records, cellsOf}
 use Rattle.ideal.specs.Cells.{Same, older-same}
 use Rattle.ideal.specs.Words.{length-cellsOf}
-use Rattle.table.specs.Table.{olderAt, below-more}
+use Rattle.table.specs.Table.{olderAt}
 use Rattle.queues.specs.Queues.{pair, pairOf, named, nameOf, named-name, isFound, queueWords, headWord, topWord, senders, wanted, waitsFor, waits→, →waits, headBelow, headOf, Chains, Heads, All, But, Ports, Queues, waitingAt, classOf, HeadSet}
 use Rattle.queues.specs.Chains.{chains-kept, chains-link, class-waiting}
 
@@ -253,7 +253,7 @@ module _ {cs : List Cell} {k : ℕ} {qs : List ℕ} {c : Cell} (g : Joins cs k q
         ap named (apart (pairOf c) (omega arith) (omega arith) ∙ g .heads .head (c .input .0) (c .output .0) i o tt) ∙ named-name (headBelow cs k (c .input .0) (c .output .0))
 
     pub old-below : (n : ℕ) (x : Found) → k ≤ n → x ≡ named (headWord ms (c .input .0) (c .output .0)) → Below n x
-    old-below n x l e = rw (e, old-head) (below-more k n (headBelow cs k (c .input .0) (c .output .0)) l (head-below cs k (c .input .0) (c .output .0)))
+    old-below n x l e = rw (e, old-head) (below-wider k n (headBelow cs k (c .input .0) (c .output .0)) l (head-below cs k (c .input .0) (c .output .0)))
 
     pub new-below : (x y : Found) → x ≡ named (headWord ms (c .input .0) (c .output .0)) → y ≡ firstFound (olderAt cs) x (waitingAt cs k) → Below 1024 y
     new-below x y e q =
@@ -274,7 +274,7 @@ module _ {cs : List Cell} {k : ℕ} {qs : List ℕ} {c : Cell} (g : Joins cs k q
     )
 
 pub head-fits : (cs : List Cell) (i o : ℕ) (x : Found) → length cs ≤ 1024 → x ≡ headOf cs i o → Below 1024 x
-head-fits cs i o x l e = rw e (below-more (length cs) 1024 (headOf cs i o) l (head-below cs (length cs) i o))
+head-fits cs i o x l e = rw e (below-wider (length cs) 1024 (headOf cs i o) l (head-below cs (length cs) i o))
 
 -- The whole ---------------------------------------------------------------------------------------
 

@@ -13,7 +13,7 @@ use borrow.Author.Tests.{eqb-true}
 use Rattle.laws.specs.Tests.{No}
 use Rattle.laws.specs.Walk.{walk-on}
 use Rattle.rules.specs.Cells.{free, nth, isFree, isLive, width, records, cellAt, cellsOf}
-use Rattle.ideal.specs.Words.{nth-cellsOf}
+use Rattle.ideal.specs.Words.{nth-cellsOf, in-words}
 
 -- an or that is 0
 pub or-none : (a b : ℕ) → bitOr a b ≡ 0 → (a ≡ 0) × (b ≡ 0)
@@ -27,11 +27,6 @@ pub record OrOf (ws : List ℕ) (r : ℕ) : Type 0 where
 pub record FreeBlock (ws : List ℕ) (k : ℕ) (r : Bool) : Type 0 where
   pub inside : So r → k + 8 ≤ records ws
   pub free : So r → (j : ℕ) → k ≤ j → j < k + 8 → nth (cellsOf ws) j ≡ free
-
--- so many records are so many words
-pub in-words : (ws : List ℕ) {n : ℕ} → n ≤ records ws → n * width ≤ length ws
-unfolding records
-in-words ws l = omega arith
 
 pub no-block : (ws : List ℕ) (k : ℕ) → FreeBlock ws k false
 no-block ws k = record { inside = λ h. absurd (false≢true h); free = λ h. absurd (false≢true h) }

@@ -18,10 +18,6 @@ use Rattle.rules.specs.declared.Cell.{Cell}
 use Rattle.rules.specs.Cells.{mostPorts, outputOf, nth, isReady, sameOutput, isReadyFor}
 use Rattle.rules.specs.Phases.{readyCount, readings}
 
-pub bit-le : (b : Bool) → bit b ≤ 1
-bit-le true = omega arith
-bit-le false = omega arith
-
 -- a cell that is ready for some output
 unfoldable pub isCounted : Cell → Bool
 isCounted c = isReady c && ltb (c .output .0) mostPorts

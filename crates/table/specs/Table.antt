@@ -11,8 +11,7 @@ use lib.Seq.{getD-set-other, set-getD}
 use borrow.Author.Tests.{eq-eqb, ne-eqb}
 use Rattle.laws.specs.Tests.{No}
 use Rattle.laws.specs.Walk.{below-suc}
-use Rattle.laws.specs.Least.{Below, lowest-nothing, lowest-hit}
-use Rattle.laws.specs.declared.Found.{Found}
+use Rattle.laws.specs.Least.{lowest-nothing, lowest-hit}
 use Rattle.laws.specs.declared.Found.the-variants.{At, Nothing}
 use Rattle.rules.specs.declared.Cell.{Cell}
 use Rattle.rules.specs.Cells.{nth, placed, isFree, isLive, width, records, cellAt, cellsOf, older}
@@ -84,11 +83,3 @@ module _ {ws : List ℕ} {k : ℕ} (b : NoneBelow ws k) where
 -- record i is older than record j
 abbrev pub olderAt : List Cell → ℕ → ℕ → Bool
 olderAt cs i j = older (nth cs i) (nth cs j)
-
--- what is found is in reach
-pub below-at : (n : ℕ) (x : Found) (k : ℕ) → x ≡ At k → Below n x → k < n
-below-at n x k e h = rw e at h
-
-pub below-more : (k n : ℕ) (x : Found) → k ≤ n → Below k x → Below n x
-below-more k n (At j) l h = omega arith
-below-more k n Nothing l h = tt

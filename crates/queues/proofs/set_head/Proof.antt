@@ -4,7 +4,7 @@ use native.Mathlib.Omega.{arith}
 use native.Mathlib.Numerals.{add-one}
 use lib.ListN.{length-set}
 use Rattle.ports.specs.PortLaws.{added-kept}
-use Rattle.table.specs.Table.{below-at}
+use Rattle.laws.specs.Least.{below-at}
 use Rattle.queues.specs.Queues.{nameOf, isFound}
 use Rattle.queues.specs.Heads.{taken-out, head-set-at, head-unset}
 use borrow.Author.Needs.{needs}

@@ -1,6 +1,7 @@
 -- A free record changes nothing; another is counted by 0 or 1.
 use native.Mathlib.Omega.{arith}
-use Rattle.table.specs.Reading.{bit-le, isCounted, not-ready, bump-one}
+use Rattle.laws.specs.Count.{bit-le}
+use Rattle.table.specs.Reading.{isCounted, not-ready, bump-one}
 use borrow.Author.Needs.{needs}
 use Rattle.table.proofs.bump.Statement.{statement}
 use Rattle.table.proofs.bump.Tie as tie

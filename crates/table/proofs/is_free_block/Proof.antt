@@ -1,7 +1,8 @@
 -- Where eight records are left, their forty words are 0 where the or of them is.
 use native.Mathlib.Omega.{arith}
 use denote.Ref.{now}
-use Rattle.table.specs.Blocks.{in-words, no-block, block-of-part}
+use Rattle.ideal.specs.Words.{in-words}
+use Rattle.table.specs.Blocks.{no-block, block-of-part}
 use borrow.Author.Needs.{needs}
 use Rattle.table.proofs.is_free_block.Statement.{statement}
 use Rattle.table.proofs.is_free_block.Tie as tie

@@ -2,9 +2,10 @@
 use mathlib.Core.Path.{refl, sym, ap₂, _∙_}
 use borrow.Author.Tests.{lt-ltb, le-ltb}
 use denote.Ref.{now}
+use Rattle.laws.specs.Least.{below-at}
 use Rattle.laws.specs.First.{firstFound-second, firstFound-first, firstFound-tie}
 use Rattle.rules.specs.Cells.{cellsOf, older}
-use Rattle.table.specs.Table.{olderAt, below-at}
+use Rattle.table.specs.Table.{olderAt}
 use borrow.Author.Needs.{needs}
 use Rattle.table.proofs.older_finding.Statement.{statement}
 use Rattle.table.proofs.older_finding.Tie as tie
