@@ -82,16 +82,55 @@ fn put_field(buf: &mut [u8], at: usize, number: u32, after: u8) -> usize
     put_byte(buf, next, after)
 }
 
-// The digits before the last are those of a tenth of the number.
+// How many digits there are is known first, so that each is set in its place, from the last one to the first.
 pub fn put_number(buf: &mut [u8], at: usize, number: u32) -> usize
     requires { ⌜ at + length (decimal number) ≤ length (now buf) ⌝ }
     ensures { λ r. ⌜ Put (now (buf .entry)) at (decimal number) (now (buf .exit)) r ⌝ }
 {
-    if number < 10 {
-        return put_byte(buf, at, digit(number));
+    let end = at + digit_count(number);
+    let mut left = number;
+    let mut next = end;
+    while left >= 10 {
+        next -= 1;
+        buf[next] = digit(left % 10);
+        left /= 10;
     }
-    let next = put_number(buf, at, number / 10);
-    put_byte(buf, next, digit(number % 10))
+    buf[at] = digit(left);
+    end
+}
+
+// Most numbers are short, so the least are tried first.
+fn digit_count(number: u32) -> usize
+    ensures { λ r. ⌜ r ≡ length (decimal number) ⌝ }
+{
+    if number < 10 {
+        return 1;
+    }
+    if number < 100 {
+        return 2;
+    }
+    if number < 1_000 {
+        return 3;
+    }
+    if number < 10_000 {
+        return 4;
+    }
+    if number < 100_000 {
+        return 5;
+    }
+    if number < 1_000_000 {
+        return 6;
+    }
+    if number < 10_000_000 {
+        return 7;
+    }
+    if number < 100_000_000 {
+        return 8;
+    }
+    if number < 1_000_000_000 {
+        return 9;
+    }
+    10
 }
 
 fn digit(number: u32) -> u8

@@ -1,0 +1,53 @@
+-- Each test is a power of ten, and the number lies between two of them.
+-- Assumes nothing.
+use native.Mathlib.Omega.{arith}
+use lib.ListN.{length}
+use mathlib.Core.Path.{ap, sym}
+use Rattle.text.specs.Prints.{decimal-one, decimal-count}
+use Rattle.text.proofs.print.digit_count.Statement.{statement}
+use Rattle.text.proofs.print.digit_count.Tie as tie
+
+returns : tie.Need-returns
+returns c = sym (ap length (decimal-one (c .before .args .number) (c .if1 .taken)))
+
+returns-2 : tie.Need-returns-2
+returns-2 c = sym (decimal-count 1 (c .before .before .args .number) (c .before .if1 .left) (c .if2 .taken))
+
+returns-3 : tie.Need-returns-3
+returns-3 c = sym (decimal-count 2 (c .before .before .before .args .number) (c .before .if2 .left) (c .if3 .taken))
+
+returns-4 : tie.Need-returns-4
+returns-4 c = sym (decimal-count 3 (c .before .before .before .before .args .number) (c .before .if3 .left) (c .if4 .taken))
+
+returns-5 : tie.Need-returns-5
+returns-5 c = sym (decimal-count 4 (c .before .before .before .before .before .args .number) (c .before .if4 .left) (c .if5 .taken))
+
+returns-6 : tie.Need-returns-6
+returns-6 c = sym (decimal-count 5 (c .before .before .before .before .before .before .args .number) (c .before .if5 .left) (c .if6 .taken))
+
+returns-7 : tie.Need-returns-7
+returns-7 c = sym (decimal-count 6 (c .before .before .before .before .before .before .before .args .number) (c .before .if6 .left) (c .if7 .taken))
+
+returns-8 : tie.Need-returns-8
+returns-8 c = sym (decimal-count 7 (c .before .before .before .before .before .before .before .before .args .number) (c .before .if7 .left) (c .if8 .taken))
+
+returns-9 : tie.Need-returns-9
+returns-9 c = sym (decimal-count 8 (c .before .before .before .before .before .before .before .before .before .args .number) (c .before .if8 .left) (c .if9 .taken))
+
+returns-10 : tie.Need-returns-10
+returns-10 c = sym (decimal-count 9 (c .before .before .before .before .before .before .before .before .before .args .number) (c .if9 .left) (omega arith))
+
+pub digit-count-spec : {M : Type 1} → statement M
+digit-count-spec =
+    tie.close
+    (tie.spec
+    returns
+    returns-2
+    returns-3
+    returns-4
+    returns-5
+    returns-6
+    returns-7
+    returns-8
+    returns-9
+    returns-10)
