@@ -6,5 +6,6 @@ pub mod Choice
 pub mod Least
 pub mod First
 pub mod Lists
+pub mod Noted
 pub mod Folds
 pub mod Texts

@@ -54,6 +54,10 @@ denied b h = not-true b h
 pub deny : (b : Bool) → No b → So (not b)
 deny b h = rw h
 
+pub to-so : (b : Bool) → No (not b) → So b
+to-so true h = refl
+to-so false h = absurd (false≢true (sym h))
+
 -- two tests that pass for each other are one
 pub same-test : (a b : Bool) → (So a → So b) → (So b → So a) → a ≡ b
 same-test true b f g = sym (f refl)

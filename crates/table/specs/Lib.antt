@@ -1,4 +1,5 @@
 pub mod Table
 pub mod Blocks
+pub mod Noting
 pub mod Reading
 pub mod Marks

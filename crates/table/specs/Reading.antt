@@ -1,12 +1,13 @@
--- The reading, counted record by record.
+-- The reading, counted record by record, and the oldest ready cell: passes over the ready records alone.
 -- Assumes nothing.
-use Prim.Native.Nat.{ℕ, _+_, _%_, _≤_, _<_}
+use Prim.Native.Nat.{ℕ, _+_, _-_, _%_, _≤_, _<_}
 use mathlib.Core.Path.{_≡_, refl, sym, ap, _∙_}
 use mathlib.Core.Logic.{⊎-elim}
 use mathlib.Core.Bool.{Bool, true, false, cond, _&&_, and-true}
 use mathlib.Core.List.{List}
 use native.Mathlib.Omega.{arith}
 use native.Mathlib.Numerals.{add-one}
+use lib.Bits.{bitAnd}
 use lib.Dec.{eqb, ltb}
 use lib.ListN.{length, getD, set, replicate, getD-replicate, List·getD-eq-default}
 use lib.Seq.{ext-getD, set-getD}
@@ -14,9 +15,14 @@ use borrow.Author.Tests.{eqb-true, eqb-false, eq-eqb, ne-eqb, ltb-true, ltb-fals
 use Rattle.laws.specs.Tests.{No, both, passes, to-no}
 use Rattle.laws.specs.Count.{bit, count, count-zero, count-suc, count-le}
 use Rattle.laws.specs.Lists.{tabulate, length-tabulate, getD-tabulate, tabulate-same, tabulate-getD, set-tabulate}
+use Rattle.laws.specs.Least.{least, least-more, sooner-skip}
+use Rattle.laws.specs.Noted.{Noted, past}
+use Rattle.laws.specs.declared.Found.{Found}
 use Rattle.rules.specs.declared.Cell.{Cell}
-use Rattle.rules.specs.Cells.{mostPorts, outputOf, nth, isReady, sameOutput, isReadyFor}
+use Rattle.rules.specs.declared.Output.{Output}
+use Rattle.rules.specs.Cells.{mostPorts, outputOf, nth, cellsOf, isReady, sameOutput, isReadyFor, older}
 use Rattle.rules.specs.Phases.{readyCount, readings}
+use Rattle.table.specs.Noting.{Lacks, lacks-other, walk-to, walk-end}
 
 -- a cell that is ready for some output
 unfoldable pub isCounted : Cell → Bool
@@ -96,6 +102,10 @@ module _ (cs : List Cell) where
   unfolding bumped readingsBelow
   readings-more k = tabulate-same 0 _ (readyBelow cs (k + 1)) mostPorts (λ o l. rw (at-output k o l, add-one k) (sym (count-suc _ k)))
 
+  -- a record that is not ready changes no count
+  pub readings-skip : (k : ℕ) → (nth cs k .place ≡ 2 → ⊥) → readingsBelow cs k ≡ readingsBelow cs (k + 1)
+  readings-skip k h = not-ready (readingsBelow cs k) (length-readings k) (nth cs k) h ∙ readings-more k
+
   pub readings-all : readingsBelow cs (length cs) ≡ readings cs
   unfolding readingsBelow readings readyCount
   readings-all = refl
@@ -108,3 +118,32 @@ module _ (cs : List Cell) where
       (λ l. rw (at-output k o (ltb-true o mostPorts l)) (count-le _ k))
       (λ l. rw (List·getD-eq-default (readingsBelow cs k) 0 {n = o} (rw (length-tabulate (readyBelow cs k) mostPorts) (ltb-false o mostPorts l))) (omega arith))
       (passes (ltb o mostPorts))
+
+-- over what is noted of a stretch: the records that are not noted are not ready
+module _ (ws : List ℕ) {list : List ℕ} {k end m : ℕ} (d : Noted (Lacks ws k 2) list m (end - k)) (l : k ≤ end) (ns : List ℕ) where
+  keeps : (x : ℕ) → x < end → bitAnd (nth (cellsOf ws) x .place) 2 ≡ 0 → ns ≡ readingsBelow (cellsOf ws) x → ns ≡ readingsBelow (cellsOf ws) (x + 1)
+  keeps x i h e = e ∙ readings-skip (cellsOf ws) x (lacks-other _ 2 (omega arith) h)
+
+  pub readings-to : (j : ℕ) → j < m → ns ≡ readingsBelow (cellsOf ws) (k + past list j) → ns ≡ readingsBelow (cellsOf ws) (k + getD list j 0)
+  readings-to = walk-to ws 2 d l (λ (x : ℕ). ns ≡ readingsBelow (cellsOf ws) x) keeps
+
+  pub readings-end : ns ≡ readingsBelow (cellsOf ws) (k + past list m) → ns ≡ readingsBelow (cellsOf ws) end
+  readings-end = walk-end ws 2 d l (λ (x : ℕ). ns ≡ readingsBelow (cellsOf ws) x) keeps
+
+-- of the ready cells of an output below record k, the first by age
+abbrev pub oldestBelow : List Cell → Output → ℕ → Found
+oldestBelow cs o k = least (λ i. isReadyFor o (nth cs i)) (λ i j. older (nth cs i) (nth cs j)) k
+
+oldest-skip : (cs : List Cell) (o : Output) (k : ℕ) → (nth cs k .place ≡ 2 → ⊥) → oldestBelow cs o k ≡ oldestBelow cs o (k + 1)
+unfolding isReadyFor isReady
+oldest-skip cs o k h = sym (least-more _ _ k ∙ sooner-skip _ k (oldestBelow cs o k) _ (rw (ne-eqb _ _ h)))
+
+module _ (ws : List ℕ) {list : List ℕ} {k end m : ℕ} (d : Noted (Lacks ws k 2) list m (end - k)) (l : k ≤ end) (o : Output) (found : Found) where
+  holds : (x : ℕ) → x < end → bitAnd (nth (cellsOf ws) x .place) 2 ≡ 0 → found ≡ oldestBelow (cellsOf ws) o x → found ≡ oldestBelow (cellsOf ws) o (x + 1)
+  holds x i h e = e ∙ oldest-skip (cellsOf ws) o x (lacks-other _ 2 (omega arith) h)
+
+  pub oldest-to : (j : ℕ) → j < m → found ≡ oldestBelow (cellsOf ws) o (k + past list j) → found ≡ oldestBelow (cellsOf ws) o (k + getD list j 0)
+  oldest-to = walk-to ws 2 d l (λ (x : ℕ). found ≡ oldestBelow (cellsOf ws) o x) holds
+
+  pub oldest-end : found ≡ oldestBelow (cellsOf ws) o (k + past list m) → found ≡ oldestBelow (cellsOf ws) o end
+  oldest-end = walk-end ws 2 d l (λ (x : ℕ). found ≡ oldestBelow (cellsOf ws) o x) holds

@@ -19,6 +19,8 @@ ghost use Rattle.table.specs.Blocks.{OrOf, FreeBlock};
 ghost use Rattle.table.specs.Reading.{bumped, isCounted};
 ghost use Rattle.table.specs.Marks.{Seen, Marked};
 
+pub mod noting;
+
 pub fn record_count(table: &[u32]) -> usize
     ensures { λ r. ⌜ r ≡ records (now (table .entry)) ⌝ }
 {
@@ -232,10 +234,17 @@ pub fn oldest_ready(table: &[u32], o: Output) -> Found
 {
     let n = record_count(table);
     let mut found = Found::Nothing;
+    let mut list = [0u8; 256];
     let mut k = 0;
-    while k < n {
-        found = older_of(table, o, found, k);
-        k += 1;
+    'stretches: while k < n {
+        let end = noting::stretch_end(k, n);
+        let m = noting::note(table, k, end, 2, &mut list);
+        let mut j = 0;
+        'noted: while j < m {
+            found = older_of(table, o, found, k + (list[j] as usize));
+            j += 1;
+        }
+        k = end;
     }
     found
 }
@@ -294,11 +303,18 @@ pub fn read(table: &[u32]) -> Reading
 {
     let n = record_count(table);
     let mut counts = [0u32; 16];
+    let mut list = [0u8; 256];
     let mut k = 0;
-    while k < n {
-        let c = cell_at(table, k);
-        bump(&mut counts, c);
-        k += 1;
+    'stretches: while k < n {
+        let end = noting::stretch_end(k, n);
+        let m = noting::note(table, k, end, 2, &mut list);
+        let mut j = 0;
+        'noted: while j < m {
+            let c = cell_at(table, k + (list[j] as usize));
+            bump(&mut counts, c);
+            j += 1;
+        }
+        k = end;
     }
     Reading { counts: counts }
 }

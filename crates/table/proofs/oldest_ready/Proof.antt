@@ -1,56 +1,110 @@
--- What was found is the least of the records below k.
-use Prim.Native.Nat.{_≤_, _-_}
-use mathlib.Core.Path.{_≡_, sym}
+-- What was found is the least of the records below the next one noted: those that are not noted are not ready.
+use Prim.Native.Nat.{ℕ, _+_, _≤_, _-_}
+use mathlib.Core.Path.{_≡_, refl, sym}
 use native.Mathlib.Omega.{arith}
+use native.Mathlib.Nat.{add-zero}
 use lib.ListN.{length}
 use denote.Ref.{now}
 use Rattle.laws.specs.Least.{least, least-zero, least-more, least-below}
+use Rattle.laws.specs.Noted.{past}
 use Rattle.rules.specs.Cells.{nth, cellsOf, isReadyFor, older}
 use Rattle.rules.specs.Phases.{oldestReady}
 use Rattle.ideal.specs.Words.{length-cellsOf}
+use Rattle.table.specs.Noting.{past-more, noted-inside}
+use Rattle.table.specs.Reading.{oldestBelow, oldest-to, oldest-end}
 use Rattle.table.proofs.oldest_ready.Statement.{statement}
 use Rattle.table.proofs.oldest_ready.Tie as tie
 
-abbrev Inv-loop : tie.InvT-loop
-Inv-loop table o n found₀ k₀ found k = (k ≤ n) × (found ≡ least (λ i. isReadyFor o (nth (cellsOf table) i)) (λ i j. older (nth (cellsOf table) i) (nth (cellsOf table) j)) k)
+abbrev Inv-noted : tie.InvT-noted
+Inv-noted table o n found₀ list k end m j₀ found j = (j ≤ m) × (found ≡ oldestBelow (cellsOf table) o (k + past list j))
 
-abbrev μ-loop : tie.MeasureT-loop
-μ-loop table o n found₀ k₀ found k = n - k
+abbrev μ-noted : tie.MeasureT-noted
+μ-noted table o n found₀ list k end m j₀ found j = m - j
 
-record-count-requires : tie.Need-record-count-requires Inv-loop μ-loop
+abbrev Inv-stretches : tie.InvT-stretches
+Inv-stretches table o n found₀ list₀ k₀ found list k = (k ≤ n) × (length list ≡ 256) × (found ≡ oldestBelow (cellsOf table) o k)
+
+abbrev μ-stretches : tie.MeasureT-stretches
+μ-stretches table o n found₀ list₀ k₀ found list k = n - k
+
+record-count-requires : tie.Need-record-count-requires Inv-noted μ-noted Inv-stretches μ-stretches
 record-count-requires c κs = tt
 
-loop-holds : tie.Need-loop-holds Inv-loop μ-loop
-loop-holds c = (omega arith, sym (least-zero _ _))
+stretches-holds : tie.Need-stretches-holds Inv-noted μ-noted Inv-stretches μ-stretches
+stretches-holds c = (omega arith, refl, sym (least-zero _ _))
 
-older-of-requires : tie.Need-older-of-requires Inv-loop μ-loop
-older-of-requires c κs = (omega arith, rw (c .before .loop .inv .1) (least-below _ _ _))
+stretch-end-requires : tie.Need-stretch-end-requires Inv-noted μ-noted Inv-stretches μ-stretches
+stretch-end-requires c κs = omega arith
 
-add-k : tie.Need-add-k Inv-loop μ-loop
-add-k c = omega arith
+note-requires : tie.Need-note-requires Inv-noted μ-noted Inv-stretches μ-stretches
+note-requires c κs = let e = c .before .stretch-end .ensures in ((omega (arith, e .0), omega (arith, e .1), e .2), c .before .before .before .stretches .inv .1)
 
-loop-less : tie.Need-loop-less Inv-loop μ-loop
-loop-less c = omega arith
+noted-holds : tie.Need-noted-holds Inv-noted μ-noted Inv-stretches μ-stretches
+noted-holds c = (omega arith, rw add-zero (c .before .before .before .before .stretches .inv .2))
 
-loop-again : tie.Need-loop-again Inv-loop μ-loop
-loop-again c = (omega arith, rw least-more (rw (← c .before .before .loop .inv .1) (c .older-of .ensures)))
+array-read-older-of : tie.Need-array-read-older-of Inv-noted μ-noted Inv-stretches μ-stretches
+array-read-older-of c = omega (arith, c .before .before .note .ensures .0 .few, c .before .before .note .ensures .1, c .before .before .before .before .stretch-end .ensures .2)
 
-returns : tie.Need-returns Inv-loop μ-loop
+cast-older-of : tie.Need-cast-older-of Inv-noted μ-noted Inv-stretches μ-stretches
+cast-older-of c = omega (arith, c .before .before .note .ensures .0 .rising (c .before .noted .j) (c .noted-test .taken) .1, c .before .before .before .before .stretch-end .ensures .2)
+
+add-older-of : tie.Need-add-older-of Inv-noted μ-noted Inv-stretches μ-stretches
+add-older-of c = record { fits = omega (arith, noted-inside _ 2 (c .before .before .note .ensures .0) (omega (arith, c .before .before .before .before .stretch-end .ensures .0)) (c .before .noted .j) (c .noted-test .taken), c .before .before .before .before .stretch-end .ensures .1) }
+
+older-of-requires : tie.Need-older-of-requires Inv-noted μ-noted Inv-stretches μ-stretches
+older-of-requires c κs =
+    let s = c .before .before .before .before .stretch-end .ensures in
+    let d = c .before .before .note .ensures .0 in
+    (omega (arith, noted-inside _ 2 d (omega (arith, s .0)) (c .before .noted .j) (c .noted-test .taken), s .1), rw (oldest-to _ d (omega (arith, s .0)) _ _ (c .before .noted .j) (c .noted-test .taken) (c .before .noted .inv .1)) (least-below _ _ _))
+
+add-j : tie.Need-add-j Inv-noted μ-noted Inv-stretches μ-stretches
+add-j c = omega arith
+
+noted-less : tie.Need-noted-less Inv-noted μ-noted Inv-stretches μ-stretches
+noted-less c = omega arith
+
+noted-again : tie.Need-noted-again Inv-noted μ-noted Inv-stretches μ-stretches
+noted-again c =
+    let s = c .before .before .before .before .before .stretch-end .ensures in
+    let e = oldest-to _ (c .before .before .before .note .ensures .0) (omega (arith, s .0)) _ _ (c .before .before .noted .j) (c .before .noted-test .taken) (c .before .before .noted .inv .1) in
+    (omega (arith, c .before .noted-test .taken), rw (past-more (c .before .before .before .note .last .1 .1 .1 .1 .0) (c .before .before .before .before .before .before .before .stretches .k) (c .before .before .noted .j)) (rw least-more (rw (← e) (c .older-of .ensures))))
+
+stretches-less : tie.Need-stretches-less Inv-noted μ-noted Inv-stretches μ-stretches
+stretches-less c = let e = c .before .before .before .before .stretch-end .ensures in omega (arith, e .0, e .1)
+
+stretches-again : tie.Need-stretches-again Inv-noted μ-noted Inv-stretches μ-stretches
+stretches-again c =
+    let s = c .before .before .before .before .stretch-end .ensures in
+    let d = c .before .before .note .ensures in
+    let e : c .before .noted .j ≡ c .before .before .note .result = omega (arith, c .before .noted .inv .0, c .noted-test .left) in
+    (s .1, d .1, oldest-end _ (d .0) (omega (arith, s .0)) _ _ (rw e at (c .before .noted .inv .1)))
+
+returns : tie.Need-returns Inv-noted μ-noted Inv-stretches μ-stretches
 unfolding oldestReady
 returns c =
-    let e : c .before .loop .k ≡ length (cellsOf (now (c .before .before .before .before .args .table))) = omega (arith, length-cellsOf (now (c .before .before .before .before .args .table))) in
-    rw e at (c .before .loop .inv .1)
+    let e : c .before .stretches .k ≡ length (cellsOf (now (c .before .before .before .before .args .table))) = omega (arith, length-cellsOf (now (c .before .before .before .before .args .table))) in
+    rw e at (c .before .stretches .inv .2)
 
 pub oldest-ready-spec : {M : Type 1} → statement M
 oldest-ready-spec =
     tie.close
     (tie.spec
-    Inv-loop
-    μ-loop
+    Inv-noted
+    μ-noted
+    Inv-stretches
+    μ-stretches
     record-count-requires
-    loop-holds
+    stretches-holds
+    stretch-end-requires
+    note-requires
+    noted-holds
+    array-read-older-of
+    cast-older-of
+    add-older-of
     older-of-requires
-    add-k
-    loop-less
-    loop-again
+    add-j
+    noted-less
+    noted-again
+    stretches-less
+    stretches-again
     returns)
