@@ -1,3 +1,4 @@
 pub mod Queues
 pub mod Chains
 pub mod Heads
+pub mod Lining

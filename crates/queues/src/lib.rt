@@ -162,9 +162,16 @@ pub fn line_up(table: &[u32], queues: &mut [u16])
     ensures { λ _. ⌜ Queues All (cellsOf (now (table .entry))) (now (queues .exit)) ⌝ }
 {
     let n = table::record_count(table);
+    let mut list = [0u8; 256];
     let mut k = 0;
-    while k < n {
-        join(table, queues, k);
-        k += 1;
+    'stretches: while k < n {
+        let end = table::noting::stretch_end(k, n);
+        let m = table::noting::note(table, k, end, 1, &mut list);
+        let mut j = 0;
+        'noted: while j < m {
+            join(table, queues, k + (list[j] as usize));
+            j += 1;
+        }
+        k = end;
     }
 }

@@ -1,64 +1,118 @@
--- The queues of the records below k.
-use Prim.Native.Nat.{ℕ, _≤_, _-_}
-use mathlib.Core.Path.{_≡_, sym, ap, _∙_}
+-- The queues of the records below the next one noted: those that are not noted do not wait.
+use Prim.Native.Nat.{ℕ, _+_, _≤_, _-_}
+use mathlib.Core.Path.{_≡_, refl, sym, ap, _∙_}
 use native.Mathlib.Omega.{arith}
+use native.Mathlib.Nat.{add-zero}
 use lib.ListN.{length, length-replicate}
 use denote.Ref.{now}
+use Rattle.laws.specs.Noted.{past}
 use Rattle.rules.specs.Cells.{cellsOf}
 use Rattle.ideal.specs.Words.{length-cellsOf}
+use Rattle.table.specs.Noting.{past-more, noted-inside}
 use Rattle.queues.specs.Chains.{no-chains}
 use Rattle.queues.specs.Heads.{no-heads, queues-all}
-use Rattle.queues.specs.Queues.{queueWords, Chains, Heads, All, classOf}
+use Rattle.queues.specs.Lining.{Lined, lined-to, lined-end}
+use Rattle.queues.specs.Queues.{queueWords}
 use Rattle.queues.proofs.line_up.Statement.{statement}
 use Rattle.queues.proofs.line_up.Tie as tie
 
-abbrev Inv-loop : tie.InvT-loop
-Inv-loop table queues₀ n k₀ queues k = (k ≤ n) × (length queues ≡ queueWords) × Chains (classOf (cellsOf table)) k queues × Heads All (cellsOf table) k queues
+abbrev Inv-noted : tie.InvT-noted
+Inv-noted table queues₀ n list k end m j₀ queues j = (j ≤ m) × Lined (cellsOf table) queues (k + past list j)
 
-abbrev μ-loop : tie.MeasureT-loop
-μ-loop table queues₀ n k₀ queues k = n - k
+abbrev μ-noted : tie.MeasureT-noted
+μ-noted table queues₀ n list k end m j₀ queues j = m - j
 
-record-count-requires : tie.Need-record-count-requires Inv-loop μ-loop
+abbrev Inv-stretches : tie.InvT-stretches
+Inv-stretches table queues₀ n list₀ k₀ queues list k = (k ≤ n) × (length list ≡ 256) × Lined (cellsOf table) queues k
+
+abbrev μ-stretches : tie.MeasureT-stretches
+μ-stretches table queues₀ n list₀ k₀ queues list k = n - k
+
+record-count-requires : tie.Need-record-count-requires Inv-noted μ-noted Inv-stretches μ-stretches
 record-count-requires c κs = tt
 
-loop-holds : tie.Need-loop-holds Inv-loop μ-loop
-loop-holds c = let e = c .before .before .before .pre .1 .1 in (omega arith, ap length e ∙ length-replicate {A = ℕ} queueWords 0, rw e (no-chains _), rw e (no-heads _))
+stretches-holds : tie.Need-stretches-holds Inv-noted μ-noted Inv-stretches μ-stretches
+stretches-holds c =
+    let e = c .before .before .before .pre .1 .1 in
+    (omega arith, refl, record { long = ap length e ∙ length-replicate {A = ℕ} queueWords 0; chains = rw e (no-chains _); heads = rw e (no-heads _) })
 
-join-requires : tie.Need-join-requires Inv-loop μ-loop
+stretch-end-requires : tie.Need-stretch-end-requires Inv-noted μ-noted Inv-stretches μ-stretches
+stretch-end-requires c κs = omega arith
+
+note-requires : tie.Need-note-requires Inv-noted μ-noted Inv-stretches μ-stretches
+note-requires c κs = let e = c .before .stretch-end .ensures in ((omega (arith, e .0), omega (arith, e .1), e .2), c .before .before .before .stretches .inv .1)
+
+noted-holds : tie.Need-noted-holds Inv-noted μ-noted Inv-stretches μ-stretches
+noted-holds c = (omega arith, rw add-zero (c .before .before .before .before .stretches .inv .2))
+
+array-read-join : tie.Need-array-read-join Inv-noted μ-noted Inv-stretches μ-stretches
+array-read-join c = omega (arith, c .before .before .before .note .ensures .0 .few, c .before .before .before .note .ensures .1, c .before .before .before .before .before .stretch-end .ensures .2, c .before .noted-test .taken)
+
+cast-join : tie.Need-cast-join Inv-noted μ-noted Inv-stretches μ-stretches
+cast-join c = omega (arith, c .before .before .before .note .ensures .0 .rising (c .before .before .noted .j) (c .before .noted-test .taken) .1, c .before .before .before .before .before .stretch-end .ensures .2)
+
+add-join : tie.Need-add-join Inv-noted μ-noted Inv-stretches μ-stretches
+add-join c = record { fits = omega (arith, noted-inside _ 1 (c .before .before .before .note .ensures .0) (omega (arith, c .before .before .before .before .before .stretch-end .ensures .0)) (c .before .before .noted .j) (c .before .noted-test .taken), c .before .before .before .before .before .stretch-end .ensures .1, c .before .before .before .before .before .before .before .before .before .before .before .pre .0) }
+
+join-requires : tie.Need-join-requires Inv-noted μ-noted Inv-stretches μ-stretches
 join-requires c κs =
-    let p = c .before .before .before .before .before .before .pre in
-    let i = c .before .before .loop .inv in
-    (omega arith, (p .0, (p .1 .0, (i .1, (i .2, i .3)))))
+    let p = c .before .before .before .before .before .before .before .before .before .before .before .pre in
+    let s = c .before .before .before .before .before .stretch-end .ensures in
+    let d = c .before .before .before .note .ensures .0 in
+    let i = lined-to _ d (omega (arith, s .0)) _ (c .before .before .noted .j) (c .before .noted-test .taken) (c .before .before .noted .inv .1) in
+    (omega (arith, noted-inside _ 1 d (omega (arith, s .0)) (c .before .before .noted .j) (c .before .noted-test .taken), s .1), (p .0, (p .1 .0, (i .long, (i .chains, i .heads)))))
 
-add-k : tie.Need-add-k Inv-loop μ-loop
-add-k c = omega arith
+add-j : tie.Need-add-j Inv-noted μ-noted Inv-stretches μ-stretches
+add-j c = omega (arith, c .before .before .before .before .noted-test .taken)
 
-loop-less : tie.Need-loop-less Inv-loop μ-loop
-loop-less c = omega (arith, c .before .before .before .before .loop-test .taken)
+noted-less : tie.Need-noted-less Inv-noted μ-noted Inv-stretches μ-stretches
+noted-less c = omega (arith, c .before .before .before .before .noted-test .taken)
 
-loop-again : tie.Need-loop-again Inv-loop μ-loop
-loop-again c = let j = c .before .before .join .ensures in (omega (arith, c .before .before .before .before .loop-test .taken), j .0, j .1 .0, j .1 .1)
+noted-again : tie.Need-noted-again Inv-noted μ-noted Inv-stretches μ-stretches
+noted-again c =
+    let e = c .before .before .join .ensures in
+    (omega (arith, c .before .before .before .before .noted-test .taken), rw (past-more (c .before .before .before .before .before .before .note .last .1 .1 .1 .1 .0) (c .before .before .before .before .before .before .before .before .before .before .stretches .k) (c .before .before .before .before .before .noted .j)) (record { long = e .0; chains = e .1 .0; heads = e .1 .1 }))
 
-same-length : tie.Need-same-length Inv-loop μ-loop
-same-length c = c .before .loop .inv .1 ∙ sym (ap length (c .before .before .before .before .before .pre .1 .1) ∙ length-replicate {A = ℕ} queueWords 0)
+stretches-less : tie.Need-stretches-less Inv-noted μ-noted Inv-stretches μ-stretches
+stretches-less c = let e = c .before .before .before .before .stretch-end .ensures in omega (arith, e .0, e .1, c .before .before .before .before .before .stretches-test .taken)
 
-returns : tie.Need-returns Inv-loop μ-loop
+stretches-again : tie.Need-stretches-again Inv-noted μ-noted Inv-stretches μ-stretches
+stretches-again c =
+    let s = c .before .before .before .before .stretch-end .ensures in
+    let d = c .before .before .note .ensures in
+    let e : c .before .noted .j ≡ c .before .before .note .result = omega (arith, c .before .noted .inv .0, c .noted-test .left) in
+    (s .1, d .1, lined-end _ (d .0) (omega (arith, s .0)) _ (rw e at (c .before .noted .inv .1)))
+
+same-length : tie.Need-same-length Inv-noted μ-noted Inv-stretches μ-stretches
+same-length c = c .before .stretches .inv .2 .long ∙ sym (ap length (c .before .before .before .before .before .pre .1 .1) ∙ length-replicate {A = ℕ} queueWords 0)
+
+returns : tie.Need-returns Inv-noted μ-noted Inv-stretches μ-stretches
 returns c =
-    let i = c .before .loop .inv in
-    let e : c .before .loop .k ≡ length (cellsOf (now (c .before .before .before .before .before .args .table))) = omega (arith, length-cellsOf (now (c .before .before .before .before .before .args .table))) in
-    queues-all (i .1) (c .before .before .before .before .before .pre .1 .0) (rw e at (i .2)) (rw e at (i .3))
+    let i = c .before .stretches .inv .2 in
+    let e : c .before .stretches .k ≡ length (cellsOf (now (c .before .before .before .before .before .args .table))) = omega (arith, length-cellsOf (now (c .before .before .before .before .before .args .table))) in
+    queues-all (i .long) (c .before .before .before .before .before .pre .1 .0) (rw e at (i .chains)) (rw e at (i .heads))
 
 pub line-up-spec : {M : Type 1} → statement M
 line-up-spec =
     tie.close
     (tie.spec
-    Inv-loop
-    μ-loop
+    Inv-noted
+    μ-noted
+    Inv-stretches
+    μ-stretches
     record-count-requires
-    loop-holds
+    stretches-holds
+    stretch-end-requires
+    note-requires
+    noted-holds
+    array-read-join
+    cast-join
+    add-join
     join-requires
-    add-k
-    loop-less
-    loop-again
+    add-j
+    noted-less
+    noted-again
+    stretches-less
+    stretches-again
     same-length
     returns)
