@@ -20,8 +20,8 @@ pub record Lined (cs : List Cell) (qs : List ℕ) (k : ℕ) : Type 0 where
   pub heads : Heads All cs k qs
 
 module _ (ws : List ℕ) {list : List ℕ} {k end m : ℕ} (d : Noted (Lacks ws k 1) list m (end - k)) (l : k ≤ end) (qs : List ℕ) where
-  keeps : (x : ℕ) → x < end → bitAnd (nth (cellsOf ws) x .place) 1 ≡ 0 → Lined (cellsOf ws) qs x → Lined (cellsOf ws) qs (x + 1)
-  keeps x i h y =
+  keeps : (x : ℕ) → k ≤ x → x < end → bitAnd (nth (cellsOf ws) x .place) 1 ≡ 0 → Lined (cellsOf ws) qs x → Lined (cellsOf ws) qs (x + 1)
+  keeps x f i h y =
       let n = not-waiting (cellsOf ws) x refl (lacks-other _ 1 (omega arith) h) in
       record { long = y .long; chains = chains-skip (y .chains) (class-other _ _ n); heads = heads-skip n (y .heads) }
 

@@ -1,25 +1,29 @@
 -- Marks of live cells in 1,024 masks, by the low digits of slot and input. Two records with the same slot and input have the same mark,
 -- so a cell whose mark is new is alone.
 -- Assumes nothing.
-use Prim.Native.Nat.{ℕ, _+_, _%_, _<_}
+use Prim.Native.Nat.{ℕ, _+_, _-_, _*_, _%_, _≤_, _<_}
 use mathlib.Core.Path.{_≡_, refl, sym, ap, ap₂, _∙_}
-use mathlib.Core.Bool.{Bool, So, true, false, not}
+use mathlib.Core.Bool.{Bool, So, true, false, not, _&&_}
 use mathlib.Core.List.{List}
 use native.Mathlib.Omega.{arith}
 use native.Mathlib.Numerals.{add-one}
 use borrow.Author.Tests.{eqb-true, eqb-false}
+use lib.Bits.{bitAnd, and-mask}
 use lib.Dec.{eqb}
 use lib.ListN.{length, getD, set, length-set}
 use lib.Seq.{getD-set-same, getD-set-other}
-use Rattle.laws.specs.Tests.{No, both, refuted, to-no, denied, deny, fails-left}
+use Rattle.laws.specs.Tests.{No, both, join, refuted, to-no, denied, deny, fails-left}
 use Rattle.laws.specs.Walk.{below-suc}
-use Rattle.laws.specs.Count.{→every}
+use Rattle.laws.specs.Count.{every, →every, every-more, every-broken}
+use Rattle.laws.specs.Noted.{Noted, past}
 use Rattle.rules.specs.declared.Slot.{Slot}
 use Rattle.rules.specs.declared.Cell.{Cell}
-use Rattle.rules.specs.Cells.{free, nth, isFree, isLive, isBlank, isSound, sameSlot, sameInput, sameEntry, isAlone}
+use Rattle.rules.specs.Cells.{free, nth, isFree, isLive, isBlank, isSound, sameSlot, sameInput, sameEntry, isAlone, width, records, cellsOf, fit}
+use Rattle.ideal.specs.Words.{length-cellsOf, nth-cellsOf}
 use Rattle.ports.specs.Ports.{has, Added}
 use Rattle.table.specs.Table.{not-live}
-use Rattle.table.specs.Blocks.{free-not-live}
+use Rattle.table.specs.Blocks.{free-not-live, Strays}
+use Rattle.table.specs.Noting.{Lacks, walk-to, walk-end}
 
 abbrev rowOf : Cell → ℕ
 rowOf c = c .entered .0 % 1024
@@ -118,3 +122,31 @@ module _ (cs : List Cell) (k : ℕ) (e : nth cs k ≡ free) where
     long = s .long;
     each = rw (add-one k) (below-suc (λ (j : ℕ). So (isLive (nth cs j)) → So (marked ms (nth cs j))) k (s .each) (λ h. absurd (refuted h (ap isLive e ∙ free-not-live))));
   }
+
+-- every record below k is sound and alone, and marked if it is live
+pub record Passed (n : ℕ) (t : Slot) (cs : List Cell) (ms : List ℕ) (k : ℕ) : Type 0 where
+  pub good : So (every (λ i. isSound n t (nth cs i) && isAlone cs i) k)
+  pub seen : Seen ms cs k
+
+-- over the live records of a stretch, those that are not noted being free
+module _ (ws : List ℕ) {list : List ℕ} {k end m r : ℕ} (d : Noted (Lacks ws k 4294967295) list m (end - k)) (l : k ≤ end) (small : (i : ℕ) → getD ws i 0 < 4294967296) (inside : end ≤ records ws) (s : Strays (cellsOf ws) k end r) (z : r ≡ 0) (n : ℕ) (t : Slot) (ms : List ℕ) where
+  no-place : (x : ℕ) → x < records ws → bitAnd (nth (cellsOf ws) x .place) 4294967295 ≡ 0 → nth (cellsOf ws) x .place ≡ 0
+  no-place x h e =
+      let q : nth (cellsOf ws) x .place ≡ getD ws (x * width) 0 = ap (λ (c : Cell). c .place) (nth-cellsOf ws x h) in
+      omega (arith, q, small (x * width), sym (and-mask (nth (cellsOf ws) x .place) 32) ∙ e)
+
+  keeps : (x : ℕ) → k ≤ x → x < end → bitAnd (nth (cellsOf ws) x .place) 4294967295 ≡ 0 → Passed n t (cellsOf ws) ms x → Passed n t (cellsOf ws) ms (x + 1)
+  keeps x f h e p =
+      let q = s .none z x f h (no-place x (omega arith) e) in
+      record { good = every-more _ _ (p .good) (join _ _ (free-sound (cellsOf ws) x q n t) (free-alone (cellsOf ws) x q)); seen = seen-free (cellsOf ws) x q (p .seen) }
+
+  pub passed-to : (j : ℕ) → j < m → Passed n t (cellsOf ws) ms (k + past list j) → Passed n t (cellsOf ws) ms (k + getD list j 0)
+  passed-to = walk-to ws 4294967295 d l (Passed n t (cellsOf ws) ms) keeps
+
+  pub passed-end : Passed n t (cellsOf ws) ms (k + past list m) → Passed n t (cellsOf ws) ms end
+  passed-end = walk-end ws 4294967295 d l (Passed n t (cellsOf ws) ms) keeps
+
+-- one record that is not sound or not alone, and the table is not fit
+pub unfit : (ws : List ℕ) (n : ℕ) (t : Slot) (x : ℕ) → x < records ws → No (isSound n t (nth (cellsOf ws) x) && isAlone (cellsOf ws) x) → No (fit n t (cellsOf ws))
+unfolding fit
+unfit ws n t x h q = every-broken _ x _ (rw (length-cellsOf ws) h) q

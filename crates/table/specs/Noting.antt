@@ -7,7 +7,7 @@ use mathlib.Core.List.{List}
 use native.Mathlib.Omega.{arith}
 use borrow.Author.Tests.{eqb-true}
 use native.Mathlib.Numerals.{add-one}
-use lib.Bits.{bitAnd, and-self}
+use lib.Bits.{bitAnd, and-self, and-zero-l}
 use lib.Dec.{eqb}
 use lib.ListN.{getD}
 use Rattle.laws.specs.Tests.{No, to-so}
@@ -15,6 +15,7 @@ use Rattle.laws.specs.Noted.{Noted, past, to-noted, to-end}
 use Rattle.rules.specs.declared.Cell.{Cell}
 use Rattle.rules.specs.Cells.{nth, width, records, cellsOf}
 use Rattle.ideal.specs.Words.{nth-cellsOf}
+use Rattle.table.specs.Blocks.{BlockFree}
 
 -- the place of record x of the stretch that begins at record k has none of `bits`
 abbrev pub Lacks : List ℕ → ℕ → ℕ → ℕ → Type 0
@@ -46,6 +47,10 @@ module _ (ws : List ℕ) (k bits : ℕ) where
     pub blocks-behind : (x : ℕ) → past blocks m * 8 ≤ x → x < n * 8 → Lacks ws k bits x
     blocks-behind x a b = in-block x (d .rest (x / 8) (omega arith) (omega arith))
 
+-- a free record's place lacks them all
+pub free-lacks : (ws : List ℕ) (k bits b : ℕ) → BlockFree ws k b → BlockLacks ws k bits b
+free-lacks ws k bits b h j l = ap (λ (c : Cell). bitAnd (c .place) bits) (h j l) ∙ and-zero-l bits
+
 -- a place that lacks the bits of another is not that one
 pub lacks-other : (p bits : ℕ) → 0 < bits → bitAnd p bits ≡ 0 → p ≡ bits → ⊥
 lacks-other p bits l h e = omega (arith, sym (and-self bits) ∙ ap (λ (q : ℕ). bitAnd q bits) (sym e) ∙ h)
@@ -53,9 +58,9 @@ lacks-other p bits l h e = omega (arith, sym (and-self bits) ∙ ap (λ (q : ℕ
 -- A walk over what is noted of a stretch, from its first record to its end: what holds of the records below k, and is kept by each that lacks the
 -- bits, is brought to the next record noted and from the last one to the end.
 module _ (ws : List ℕ) (bits : ℕ) {list : List ℕ} {k end m : ℕ} (d : Noted (Lacks ws k bits) list m (end - k)) (l : k ≤ end) (P : ℕ → Type 0)
-    (keeps : (x : ℕ) → x < end → bitAnd (nth (cellsOf ws) x .place) bits ≡ 0 → P x → P (x + 1)) where
+    (keeps : (x : ℕ) → k ≤ x → x < end → bitAnd (nth (cellsOf ws) x .place) bits ≡ 0 → P x → P (x + 1)) where
   kept : (x : ℕ) → x < end - k → Lacks ws k bits x → P (k + x) → P (k + (x + 1))
-  kept x h i p = let e : k + x + 1 ≡ k + (x + 1) = omega arith in rw e at (keeps (k + x) (omega arith) i p)
+  kept x h i p = let e : k + x + 1 ≡ k + (x + 1) = omega arith in rw e at (keeps (k + x) (omega arith) (omega arith) i p)
 
   pub walk-to : (j : ℕ) → j < m → P (k + past list j) → P (k + getD list j 0)
   walk-to j h p = to-noted d (λ (x : ℕ). P (k + x)) kept j h p

@@ -121,8 +121,8 @@ module _ (cs : List Cell) where
 
 -- over what is noted of a stretch: the records that are not noted are not ready
 module _ (ws : List ℕ) {list : List ℕ} {k end m : ℕ} (d : Noted (Lacks ws k 2) list m (end - k)) (l : k ≤ end) (ns : List ℕ) where
-  keeps : (x : ℕ) → x < end → bitAnd (nth (cellsOf ws) x .place) 2 ≡ 0 → ns ≡ readingsBelow (cellsOf ws) x → ns ≡ readingsBelow (cellsOf ws) (x + 1)
-  keeps x i h e = e ∙ readings-skip (cellsOf ws) x (lacks-other _ 2 (omega arith) h)
+  keeps : (x : ℕ) → k ≤ x → x < end → bitAnd (nth (cellsOf ws) x .place) 2 ≡ 0 → ns ≡ readingsBelow (cellsOf ws) x → ns ≡ readingsBelow (cellsOf ws) (x + 1)
+  keeps x f i h e = e ∙ readings-skip (cellsOf ws) x (lacks-other _ 2 (omega arith) h)
 
   pub readings-to : (j : ℕ) → j < m → ns ≡ readingsBelow (cellsOf ws) (k + past list j) → ns ≡ readingsBelow (cellsOf ws) (k + getD list j 0)
   readings-to = walk-to ws 2 d l (λ (x : ℕ). ns ≡ readingsBelow (cellsOf ws) x) keeps
@@ -139,8 +139,8 @@ unfolding isReadyFor isReady
 oldest-skip cs o k h = sym (least-more _ _ k ∙ sooner-skip _ k (oldestBelow cs o k) _ (rw (ne-eqb _ _ h)))
 
 module _ (ws : List ℕ) {list : List ℕ} {k end m : ℕ} (d : Noted (Lacks ws k 2) list m (end - k)) (l : k ≤ end) (o : Output) (found : Found) where
-  holds : (x : ℕ) → x < end → bitAnd (nth (cellsOf ws) x .place) 2 ≡ 0 → found ≡ oldestBelow (cellsOf ws) o x → found ≡ oldestBelow (cellsOf ws) o (x + 1)
-  holds x i h e = e ∙ oldest-skip (cellsOf ws) o x (lacks-other _ 2 (omega arith) h)
+  holds : (x : ℕ) → k ≤ x → x < end → bitAnd (nth (cellsOf ws) x .place) 2 ≡ 0 → found ≡ oldestBelow (cellsOf ws) o x → found ≡ oldestBelow (cellsOf ws) o (x + 1)
+  holds x f i h e = e ∙ oldest-skip (cellsOf ws) o x (lacks-other _ 2 (omega arith) h)
 
   pub oldest-to : (j : ℕ) → j < m → found ≡ oldestBelow (cellsOf ws) o (k + past list j) → found ≡ oldestBelow (cellsOf ws) o (k + getD list j 0)
   oldest-to = walk-to ws 2 d l (λ (x : ℕ). found ≡ oldestBelow (cellsOf ws) o x) holds

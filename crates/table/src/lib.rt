@@ -6,7 +6,9 @@ use rules::Input;
 use rules::Output;
 use rules::Slot;
 ghost use mathlib.Core.Path.{_≡_};
-ghost use Prim.Native.Nat.{_+_, _%_, _<_, _≤_};
+ghost use mathlib.Core.Bool.{So};
+ghost use Rattle.laws.specs.Tests.{No};
+ghost use Prim.Native.Nat.{_+_, _-_, _*_, _/_, _%_, _<_, _≤_};
 ghost use lib.ListN.{length, getD, replicate};
 ghost use Rattle.laws.specs.Least.{Below, sooner};
 ghost use Rattle.laws.specs.Count.{bit};
@@ -15,9 +17,11 @@ ghost use Rattle.rules.specs.Cells.{free, placed, nth, records, isWhole, cellsO
 ghost use Rattle.rules.specs.Answers.{live};
 ghost use Rattle.rules.specs.Phases.{lowestFree, readings, oldestReady};
 ghost use Rattle.table.specs.Table.{Stored, NoneBelow, olderAt};
-ghost use Rattle.table.specs.Blocks.{OrOf, FreeBlock};
+ghost use Rattle.laws.specs.Noted.{Noted};
+ghost use Rattle.table.specs.Blocks.{OrOf, BlockFree, Stray, Strays};
 ghost use Rattle.table.specs.Reading.{bumped, isCounted};
-ghost use Rattle.table.specs.Marks.{Seen, Marked};
+ghost use Rattle.table.specs.Noting.{Lacks};
+ghost use Rattle.table.specs.Marks.{Seen, Marked, Passed};
 
 pub mod noting;
 
@@ -97,45 +101,6 @@ pub fn free_record(table: &mut [u32], k: usize)
             tag: 0,
         },
     );
-}
-
-// The or of some words: 0 only where every word is.
-fn or_of(words: &[u32]) -> u32
-    ensures { λ r. ⌜ OrOf (now (words .entry)) r ⌝ }
-{
-    let mut all = 0;
-    let mut i = 0;
-    while i < words.len() {
-        all |= words[i];
-        i += 1;
-    }
-    all
-}
-
-// Whether eight free records begin at record k, which need no look one by one.
-fn is_free_block(table: &[u32], k: usize) -> bool
-    requires { ⌜ k < records (now table) ⌝ }
-    ensures { λ r. ⌜ FreeBlock (now (table .entry)) k r ⌝ }
-{
-    if record_count(table) < k + 8 {
-        return false;
-    }
-    let at = k * 5;
-    if table[at] != 0 {
-        return false;
-    }
-    or_of(&table[at..at + 40]) == 0
-}
-
-// Where the records that are looked at one by one end: eight on, or with the last.
-fn block_end(k: usize, n: usize) -> usize
-    requires { ⌜ k < n ⌝ }
-    ensures { λ r. ⌜ (k < r) × (r ≤ n) ⌝ }
-{
-    if n - k < 8 {
-        return n;
-    }
-    k + 8
 }
 
 // Whether a stands before b by slot and then input.
@@ -416,6 +381,137 @@ fn is_alone_by(table: &[u32], k: usize, marks: &mut [u16; 1024]) -> bool
     is_alone(table, k)
 }
 
+// The or of some words: 0 only where every word is.
+fn or_of(words: &[u32]) -> u32
+    ensures { λ r. ⌜ OrOf (now (words .entry)) r ⌝ }
+{
+    let mut all = 0;
+    let mut i = 0;
+    while i < words.len() {
+        all |= words[i];
+        i += 1;
+    }
+    all
+}
+
+// Notes the blocks of eight in which some word is not 0, of so many from record k on. The others are eight free records each, which need no look.
+fn note_touched(table: &[u32], k: usize, count: usize, blocks: &mut [u8; 32]) -> usize
+    requires { ⌜ k + count * 8 ≤ records (now table) ⌝ }
+    requires { ⌜ count ≤ 32 ⌝ }
+    requires { ⌜ length (now blocks) ≡ 32 ⌝ }
+    ensures { λ r. ⌜ Noted (BlockFree (now (table .entry)) k) (now (blocks .exit)) r count ⌝ }
+    ensures { λ _. ⌜ length (now (blocks .exit)) ≡ 32 ⌝ }
+{
+    let mut found = 0;
+    let mut b = 0;
+    while b < count {
+        blocks[found] = b as u8;
+        let at = (k + b * 8) * 5;
+        found += noting::one_if_any(or_of(&table[at..at + 40]));
+        b += 1;
+    }
+    found
+}
+
+// What stands behind the place of a free record, all in one.
+fn stray_of(c: Cell) -> u32
+    ensures { λ r. ⌜ Stray c r ⌝ }
+{
+    if c.place != 0 {
+        return 0;
+    }
+    c.input.0 | c.output.0 | c.entered.0 | c.tag
+}
+
+// The same of the records from one to another.
+fn strays_among(table: &[u32], from: usize, to: usize) -> u32
+    requires { ⌜ (from ≤ to) × (to ≤ records (now table)) ⌝ }
+    ensures { λ r. ⌜ Strays (cellsOf (now (table .entry))) from to r ⌝ }
+{
+    let mut all = 0;
+    let mut k = from;
+    while k < to {
+        let c = cell_at(table, k);
+        all |= stray_of(c);
+        k += 1;
+    }
+    all
+}
+
+// The same of a stretch, whose touched blocks are noted.
+fn strays_within(table: &[u32], k: usize, size: usize, blocks: &[u8], count: usize) -> u32
+    requires { ⌜ (size ≤ 256) × (k + size ≤ records (now table)) ⌝ }
+    requires { ⌜ count ≤ length (now blocks) ⌝ }
+    requires { ⌜ Noted (BlockFree (now table) k) (now blocks) count (size / 8) ⌝ }
+    ensures { λ r. ⌜ Strays (cellsOf (now (table .entry))) k (k + size) r ⌝ }
+{
+    let mut all = 0;
+    let mut j = 0;
+    while j < count {
+        let from = k + (blocks[j] as usize) * 8;
+        all |= strays_among(table, from, from + 8);
+        j += 1;
+    }
+    let rest = k + size / 8 * 8;
+    all | strays_among(table, rest, k + size)
+}
+
+// What is noted of a stretch: how many live records, and what stands behind the places of the others.
+struct Notes {
+    live: usize,
+    strays: u32,
+}
+
+// Notes the live records of the stretch from record k to record `end`, numbered from k on.
+fn note_live(table: &[u32], k: usize, end: usize, list: &mut [u8; 256]) -> Notes
+    requires { ⌜ (k ≤ end) × (end ≤ records (now table)) × (end ≤ k + 256) ⌝ }
+    requires { ⌜ length (now list) ≡ 256 ⌝ }
+    ensures { λ r. ⌜ Noted (Lacks (now (table .entry)) k 4294967295) (now (list .exit)) (r .live) (end - k) ⌝ }
+    ensures { λ r. ⌜ Strays (cellsOf (now (table .entry))) k end (r .strays) ⌝ }
+    ensures { λ _. ⌜ length (now (list .exit)) ≡ 256 ⌝ }
+{
+    let size = end - k;
+    let mut blocks = [0u8; 32];
+    let count = note_touched(table, k, size / 8, &mut blocks);
+    let strays = strays_within(table, k, size, &blocks, count);
+    let live = noting::note_within(table, k, size, u32::MAX, &blocks, count, list);
+    Notes { live, strays }
+}
+
+// Whether the records of a stretch are sound and alone, as those below it are; its live ones are marked.
+fn is_stretch_fit(
+    table: &[u32],
+    k: usize,
+    end: usize,
+    ports: u32,
+    t: Slot,
+    marks: &mut [u16; 1024],
+) -> bool
+    requires { ⌜ (k ≤ end) × (end ≤ records (now table)) × (end ≤ k + 256) ⌝ }
+    requires { ⌜ Passed ports t (cellsOf (now table)) (now marks) k ⌝ }
+    ensures { λ r. ⌜ (So r → Passed ports t (cellsOf (now (table .entry))) (now (marks .exit)) end) ⌝ }
+    ensures { λ r. ⌜ (No r → No (fit ports t (cellsOf (now (table .entry))))) ⌝ }
+{
+    let mut list = [0u8; 256];
+    let notes = note_live(table, k, end, &mut list);
+    if notes.strays != 0 {
+        return false;
+    }
+    let mut j = 0;
+    while j < notes.live {
+        let i = k + (list[j] as usize);
+        let c = cell_at(table, i);
+        if !is_sound(c, ports, t) {
+            return false;
+        }
+        if !is_alone_by(table, i, marks) {
+            return false;
+        }
+        j += 1;
+    }
+    true
+}
+
 // Whether the table is fit for slot t, in one pass.
 pub fn fit(table: &[u32], ports: u32, t: Slot) -> bool
     ensures { λ r. ⌜ r ≡ fit ports t (cellsOf (now (table .entry))) ⌝ }
@@ -423,22 +519,12 @@ pub fn fit(table: &[u32], ports: u32, t: Slot) -> bool
     let n = record_count(table);
     let mut marks = [0u16; 1024];
     let mut k = 0;
-    'strides: while k < n {
-        if is_free_block(table, k) {
-            k += 8;
-            continue 'strides;
+    while k < n {
+        let end = noting::stretch_end(k, n);
+        if !is_stretch_fit(table, k, end, ports, t, &mut marks) {
+            return false;
         }
-        let end = block_end(k, n);
-        'records: while k < end {
-            let c = cell_at(table, k);
-            if !is_sound(c, ports, t) {
-                return false;
-            }
-            if !is_alone_by(table, k, &mut marks) {
-                return false;
-            }
-            k += 1;
-        }
+        k = end;
     }
     true
 }

@@ -23,7 +23,7 @@ pub fn stretch_end(k: usize, n: usize) -> usize
     k + 256
 }
 
-fn one_if_any(x: u32) -> usize
+pub fn one_if_any(x: u32) -> usize
     ensures { λ r. ⌜ (r ≡ bit (not (eqb x 0))) × (r ≤ 1) ⌝ }
 {
     if x == 0 { 0 } else { 1 }
