@@ -19,12 +19,6 @@ pub struct Taken {
     pub outputs: u16,
 }
 
-// What the rounds of a phase picked: the ports taken, and for each taken output the input served.
-pub struct Picked {
-    pub taken: Taken,
-    pub served: [u32; 16],
-}
-
 // Of the waiting cells for an output, at inputs that are not taken, the oldest: a look at the heads.
 fn first_for(table: &[u32], queues: &[u16], inputs: u16, o: u32) -> Found
     requires { ⌜ o < 16 ⌝ }
@@ -117,8 +111,14 @@ pub fn first_candidate(table: &[u32], queues: &[u16], r: Reading, taken: Taken) 
     found
 }
 
-// The cell of record k becomes ready and takes its ports; the head of its pair is found anew.
-fn take(table: &mut [u32], queues: &mut [u16], k: usize, picked: Picked) -> Picked
+// The cell of record k becomes ready and takes its ports, and its input is noted at its output; the head of its pair is found anew.
+fn take(
+    table: &mut [u32],
+    queues: &mut [u16],
+    served: &mut [u32; 16],
+    k: usize,
+    taken: Taken,
+) -> Taken
     requires { ⌜ k < records (now table) ⌝ }
     requires { ⌜ records (now table) ≤ 1024 ⌝ }
     requires { ⌜ Queues All (cellsOf (now table)) (now queues) ⌝ }
@@ -126,63 +126,59 @@ fn take(table: &mut [u32], queues: &mut [u16], k: usize, picked: Picked) -> Pick
     requires { ⌜ nth (cellsOf (now table)) k .output .0 < 16 ⌝ }
     ensures { λ q. ⌜ length (now (table .exit)) ≡ length (now (table .entry)) ⌝ }
     ensures { λ q. ⌜ Queues All (cellsOf (now (table .exit))) (now (queues .exit)) ⌝ }
-    ensures { λ q. ⌜ Takes (cellsOf (now (table .entry))) picked k (cellsOf (now (table .exit))) q ⌝ }
+    ensures { λ q. ⌜ Takes (cellsOf (now (table .entry))) taken (now (served .entry)) k (cellsOf (now (table .exit))) q (now (served .exit)) ⌝ }
 {
     let c = table::cell_at(table, k);
     table::set_place(table, k, 2);
     queues::renew(table, queues, c.input.0, c.output.0);
     let o = c.output.0 as usize;
-    let mut served = picked.served;
     served[o] = c.input.0;
-    let taken = Taken {
-        inputs: ports::with(picked.taken.inputs, c.input.0),
-        outputs: ports::with(picked.taken.outputs, c.output.0),
-    };
-    Picked {
-        taken: taken,
-        served: served,
+    Taken {
+        inputs: ports::with(taken.inputs, c.input.0),
+        outputs: ports::with(taken.outputs, c.output.0),
     }
 }
 
-// Rounds of picking: the first candidate is taken, again and again, until there is none.
-fn pick(table: &mut [u32], queues: &mut [u16], r: Reading, ports: u32) -> Picked
+// Rounds of picking: the first candidate is taken, again and again, until there is none. For each taken output the input served is noted.
+fn pick(
+    table: &mut [u32],
+    queues: &mut [u16],
+    served: &mut [u32; 16],
+    r: Reading,
+    ports: u32,
+) -> Taken
     requires { ⌜ ports ≤ 16 ⌝ }
     requires { ⌜ records (now table) ≤ 1024 ⌝ }
     requires { ⌜ InPorts ports (cellsOf (now table)) ⌝ }
     requires { ⌜ Queues All (cellsOf (now table)) (now queues) ⌝ }
+    requires { ⌜ length (now served) ≡ 16 ⌝ }
     ensures { λ q. ⌜ length (now (table .exit)) ≡ length (now (table .entry)) ⌝ }
     ensures { λ q. ⌜ Queues All (cellsOf (now (table .exit))) (now (queues .exit)) ⌝ }
-    ensures { λ q. ⌜ Shows (cellsOf (now (table .entry))) (matchOf ports (r .counts) (cellsOf (now (table .entry)))) (cellsOf (now (table .exit))) q ⌝ }
+    ensures { λ q. ⌜ Shows (cellsOf (now (table .entry))) (matchOf ports (r .counts) (cellsOf (now (table .entry)))) (cellsOf (now (table .exit))) q (now (served .exit)) ⌝ }
 {
-    let none = Taken {
+    let mut taken = Taken {
         inputs: 0,
         outputs: 0,
     };
-    let mut picked = Picked {
-        taken: none,
-        served: [0u32; 16],
-    };
     let mut round = 0;
     'rounds: while round < ports {
-        let taken = picked.taken;
         let Found::At(k) = first_candidate(table, queues, r, taken) else {
             break 'rounds;
         };
-        picked = take(table, queues, k, picked);
+        taken = take(table, queues, served, k, taken);
         round += 1;
     }
-    picked
+    taken
 }
 
 // The match words: 1 + the input served at each taken output, lowest first; 0 at the others.
-fn write_words(words: &mut [u32], picked: Picked)
-    requires { ⌜ Writable (picked .taken .outputs) (picked .served) (length (now words)) ⌝ }
+fn write_words(words: &mut [u32], served: &[u32; 16], outputs: u16)
+    requires { ⌜ Writable outputs (now served) (length (now words)) ⌝ }
     ensures { λ _. ⌜ length (now (words .exit)) ≡ length (now (words .entry)) ⌝ }
-    ensures { λ _. ⌜ Written (picked .taken .outputs) (picked .served) (now (words .exit)) ⌝ }
+    ensures { λ _. ⌜ Written outputs (now (served .entry)) (now (words .exit)) ⌝ }
 {
     table::clear(words);
-    let served = picked.served;
-    let mut left = picked.taken.outputs;
+    let mut left = outputs;
     while left != 0 {
         let o = ports::lowest(left);
         left = ports::without(left, o);
@@ -201,9 +197,10 @@ fn transfer(table: &mut [u32], queues: &mut [u16], words: &mut [u32], r: Reading
     ensures { λ q. ⌜ Queues All (cellsOf (now (table .exit))) (now (queues .exit)) ⌝ }
     ensures { λ q. ⌜ Transferred ports (r .counts) (now (table .entry)) (now (table .exit)) (now (words .exit)) q ⌝ }
 {
-    let picked = pick(table, queues, r, ports);
-    write_words(words, picked);
-    ports::size(picked.taken.outputs)
+    let mut served = [0u32; 16];
+    let taken = pick(table, queues, &mut served, r, ports);
+    write_words(words, &served, taken.outputs);
+    ports::size(taken.outputs)
 }
 
 // S transfer phases by one reading, with all match words. Where a phase moves nothing, those after it move nothing either.
