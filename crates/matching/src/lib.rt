@@ -10,7 +10,7 @@ ghost use Rattle.rules.specs.Cells.{nth, records, cellsOf};
 ghost use Rattle.rules.specs.Phases.{matchOf, phases};
 ghost use Rattle.rules.specs.Phases.{matches as matchesOf};
 ghost use Rattle.matching.specs.Picking.{firstCandidate, InPorts, Takes, Shows};
-ghost use Rattle.matching.specs.Rounds.{firstFor, isServable, Lowered, Lows};
+ghost use Rattle.matching.specs.Rounds.{firstFor, firstAmong, isServable, Lowered, Lows, Kept};
 ghost use Rattle.matching.specs.Transfer.{Writable, Written, Transferred};
 
 // The taken inputs and the taken outputs are two sets of ports.
@@ -95,20 +95,49 @@ fn lowest_readings(table: &[u32], queues: &[u16], r: Reading, taken: Taken) -> u
     lowest.outputs
 }
 
-// Of the waiting cells that conflict with none picked, the one that stands before the others: for an output with the lowest reading, the oldest.
-pub fn first_candidate(table: &[u32], queues: &[u16], r: Reading, taken: Taken) -> Found
+// Of the waiting cells for some outputs, at inputs that are not taken, the oldest.
+fn first_among(table: &[u32], queues: &[u16], inputs: u16, outputs: u16) -> Found
     requires { ⌜ Queues All (cellsOf (now table)) (now queues) ⌝ }
-    ensures { λ q. ⌜ q ≡ firstCandidate (r .counts) (has (taken .inputs)) (has (taken .outputs)) (cellsOf (now (table .entry))) ⌝ }
+    ensures { λ q. ⌜ q ≡ firstAmong (has inputs) (has outputs) (cellsOf (now (table .entry))) ⌝ }
 {
-    let inputs = taken.inputs;
     let mut found = Found::Nothing;
-    let mut left = lowest_readings(table, queues, r, taken);
+    let mut left = outputs;
     while left != 0 {
         let o = ports::lowest(left);
         left = ports::without(left, o);
         found = table::older_finding(table, found, first_for(table, queues, inputs, o));
     }
     found
+}
+
+// What a round finds, and the outputs that it looked at.
+struct Candidate {
+    found: Found,
+    lows: u16,
+}
+
+// Of the waiting cells that conflict with none picked, the one that stands before the others: for an output with the lowest reading, the oldest.
+// The readings stay through a phase, and what can be served only gets less: as long as one of the outputs that had the lowest reading can be
+// served, it is they that have it, and only then are others looked for.
+fn first_candidate(table: &[u32], queues: &[u16], r: Reading, taken: Taken, lows: u16) -> Candidate
+    requires { ⌜ Queues All (cellsOf (now table)) (now queues) ⌝ }
+    requires { ⌜ Kept (r .counts) (has (taken .inputs)) (has (taken .outputs)) (cellsOf (now table)) lows ⌝ }
+    ensures { λ q. ⌜ q .found ≡ firstCandidate (r .counts) (has (taken .inputs)) (has (taken .outputs)) (cellsOf (now (table .entry))) ⌝ }
+    ensures { λ q. ⌜ Kept (r .counts) (has (taken .inputs)) (has (taken .outputs)) (cellsOf (now (table .entry))) (q .lows) ⌝ }
+{
+    let kept = ports::except(lows, taken.outputs);
+    let found = first_among(table, queues, taken.inputs, kept);
+    if let Found::At(k) = found {
+        return Candidate {
+            found: Found::At(k),
+            lows: kept,
+        };
+    }
+    let next = lowest_readings(table, queues, r, taken);
+    Candidate {
+        found: first_among(table, queues, taken.inputs, next),
+        lows: next,
+    }
 }
 
 // The cell of record k becomes ready and takes its ports, and its input is noted at its output; the head of its pair is found anew.
@@ -160,9 +189,13 @@ fn pick(
         inputs: 0,
         outputs: 0,
     };
+    let mut lows = 0;
     let mut round = 0;
     'rounds: while round < ports {
-        let Found::At(k) = first_candidate(table, queues, r, taken) else {
+        let candidate = first_candidate(table, queues, r, taken, lows);
+        lows = candidate.lows;
+        let found = candidate.found;
+        let Found::At(k) = found else {
             break 'rounds;
         };
         taken = take(table, queues, served, k, taken);
