@@ -67,12 +67,12 @@ writing-none taken served n =
 pub writing-done : {taken : ℕ} {served ws : List ℕ} → Writing taken served 0 ws → Written taken served ws
 writing-done {taken} {served} {ws} h = record { word = λ o l. h .word o l ∙ ap (λ (b : Bool). cond b (suc (getD served o 0)) 0) (ap (λ (b : Bool). has taken o && not b) (has-none o) ∙ and-true (has taken o)) }
 
-pub writing-more : {taken left o rest : ℕ} {served ws : List ℕ} → Writing taken served left ws → So (has left o) → o < length ws → Removed left o rest → Writing taken served rest (set ws o (suc (getD served o 0)))
-writing-more {taken} {left} {o} {rest} {served} {ws} h x l r =
-    record {
+pub writing-more : {taken left o rest : ℕ} {served ws : List ℕ} → Writing taken served left ws → So (has left o) → o < length ws → Removed left o rest → (v : ℕ) → v ≡ suc (getD served o 0) → Writing taken served rest (set ws o v)
+writing-more {taken} {left} {o} {rest} {served} {ws} h x l r v e =
+    rw e (record {
       part = λ i y. ⊎-elim (λ e. absurd (refuted (ap (has rest) (sym (eqb-true i o e)) ∙ y) (r .outside))) (λ e. h .part i (sym (r .others i (eqb-false i o e)) ∙ y)) (passes (eqb i o));
       word = λ i m. ⊎-elim (here i) (there i (rw (length-set ws o (suc (getD served o 0))) at m)) (passes (eqb i o));
-    }
+    })
   where
     here : (i : ℕ) → So (eqb i o) → getD (set ws o (suc (getD served o 0))) i 0 ≡ cond (has taken i && not (has rest i)) (suc (getD served i 0)) 0
     here i e =

@@ -110,15 +110,15 @@ fn first_among(table: &[u32], queues: &[u16], inputs: u16, outputs: u16) -> Foun
     found
 }
 
-// What a round finds, and the outputs that it looked at.
+// What a round finds, and the outputs that it looked at, for the next round.
 struct Candidate {
     found: Found,
     lows: u16,
 }
 
 // Of the waiting cells that conflict with none picked, the one that stands before the others: for an output with the lowest reading, the oldest.
-// The readings stay through a phase, and what can be served only gets less: as long as one of the outputs that had the lowest reading can be
-// served, it is they that have it, and only then are others looked for.
+// The readings stay through a phase, and what can be served only gets less: the outputs that had the lowest reading have it as long as one of
+// them can be served. Only where none can are others looked for.
 fn first_candidate(table: &[u32], queues: &[u16], r: Reading, taken: Taken, lows: u16) -> Candidate
     requires { ⌜ Queues All (cellsOf (now table)) (now queues) ⌝ }
     requires { ⌜ Kept (r .counts) (has (taken .inputs)) (has (taken .outputs)) (cellsOf (now table)) lows ⌝ }

@@ -1,4 +1,5 @@
--- After i rounds the table and what is kept show the cells that i rounds of the rules pick, and the queues are the table's.
+-- After i rounds the table, the taken ports and what is noted show the cells that i rounds of the rules pick, and the queues are the table's;
+-- the outputs kept stay those with the lowest reading.
 use Prim.Native.Nat.{_≤_, _-_}
 use mathlib.Core.Path.{_≡_, refl, sym, _∙_}
 use native.Mathlib.Omega.{arith}

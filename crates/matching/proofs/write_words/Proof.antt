@@ -2,7 +2,6 @@
 use Prim.Native.Nat.{_<_}
 use mathlib.Core.Path.{_≡_, refl, ap, _∙_}
 use native.Mathlib.Omega.{arith}
-use native.Mathlib.Numerals.{add-one}
 use lib.ListN.{length, length-set, length-replicate}
 use denote.Ref.{now}
 use Rattle.laws.specs.Count.{count}
@@ -63,7 +62,7 @@ loop-less : tie.Need-loop-less Inv-loop μ-loop
 loop-less c = omega (arith, removed-count _ _ _ 16 (c .before .before .lowest .ensures .small) (c .before .before .lowest .ensures .inside) (c .before .without .ensures))
 
 loop-again : tie.Need-loop-again Inv-loop μ-loop
-loop-again c = (simp length-set (c .before .before .before .before .loop .inv .0), rw add-one (writing-more (c .before .before .before .before .loop .inv .1) (c .before .before .lowest .ensures .inside) (below (c .before)) (c .before .without .ensures)))
+loop-again c = (simp length-set (c .before .before .before .before .loop .inv .0), writing-more (c .before .before .before .before .loop .inv .1) (c .before .before .lowest .ensures .inside) (below (c .before)) (c .before .without .ensures) _ (omega arith))
 
 same-length : tie.Need-same-length Inv-loop μ-loop
 same-length c = long (c .before)
