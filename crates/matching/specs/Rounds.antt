@@ -399,11 +399,10 @@ is-first : (r : List ℕ) (ins outs : ℕ → Bool) (cs : List Cell) (found : Fo
 unfolding firstCandidate
 is-first r ins outs cs found h = first-least (beforeAt r cs) (ranks-on (before r) (before-ranks r) (nth cs)) (λ k. candidate ins outs (nth cs k)) (length cs) found h
 
-module _ (ins outs : ℕ → Bool) (cs : List Cell) where
-  -- the output of a candidate can be served
-  servable : (k : ℕ) → k < length cs → So (candidate ins outs (nth cs k)) → So (isServable ins (nth cs k .output .0) cs)
-  unfolding isServable
-  servable k l x = let v = candidate→ ins outs (nth cs k) x in →any (λ j. waitsOn ins (nth cs k .output .0) (nth cs j)) (length cs) k l (→waitsOn ins (nth cs k .output .0) (nth cs k) (v .0) (v .1) refl)
+-- the output of a candidate can be served
+servable : (ins outs : ℕ → Bool) (cs : List Cell) (k : ℕ) → k < length cs → So (candidate ins outs (nth cs k)) → So (isServable ins (nth cs k .output .0) cs)
+unfolding isServable
+servable ins outs cs k l x = let v = candidate→ ins outs (nth cs k) x in →any (λ j. waitsOn ins (nth cs k .output .0) (nth cs j)) (length cs) k l (→waitsOn ins (nth cs k .output .0) (nth cs k) (v .0) (v .1) refl)
 
 -- and one that can be served has a cell
 served : (ins : ℕ → Bool) (cs : List Cell) (s o : ℕ) → So (has s o) → So (isServable ins o cs) → (k : ℕ) × (k < length cs) × So (waitsAmong ins (has s) (nth cs k))
