@@ -25,7 +25,7 @@ use Rattle.rules.specs.Phases.{conflict, isOpen, firstOpen, none, add, addFound
 use Rattle.ideal.specs.Cells.{waiting→, conflict→, by-input, by-output, conflict-self, Same, before-same}
 use Rattle.ideal.specs.Match.{in-add, to-add, self-add, open→, takenIn→, →takenIn, taken→, →taken}
 use Rattle.ideal.specs.Phases.{length-moved, moved-yes, moved-no}
-use Rattle.matching.specs.declared.Picked.{Picked}
+use Rattle.matching.specs.declared.Taken.{Taken}
 
 -- a waiting cell whose input and output are in neither set
 unfoldable pub candidate : (ℕ → Bool) → (ℕ → Bool) → Cell → Bool
@@ -40,20 +40,20 @@ pub record InPorts (n : ℕ) (cs : List Cell) : Type 0 where
   pub inputs : (k : ℕ) → k < length cs → nth cs k .place ≡ 1 → nth cs k .input .0 < n
   pub outputs : (k : ℕ) → k < length cs → nth cs k .place ≡ 1 → nth cs k .output .0 < n
 
--- us and q become vs and next: record k becomes ready, its ports are taken, its input is noted at its output
-pub record Takes (us : List Cell) (q : Picked) (k : ℕ) (vs : List Cell) (next : Picked) : Type 0 where
+-- us becomes vs, the taken ports q next, what is noted ns ms: record k becomes ready, its ports are taken, its input is noted at its output
+pub record Takes (us : List Cell) (q : Taken) (ns : List ℕ) (k : ℕ) (vs : List Cell) (next : Taken) (ms : List ℕ) : Type 0 where
   pub cells : vs ≡ set us k (placed 2 (nth us k))
-  pub inputs : Added (q .taken .inputs) (nth us k .input .0) (next .taken .inputs)
-  pub outputs : Added (q .taken .outputs) (nth us k .output .0) (next .taken .outputs)
-  pub served : next .served ≡ set (q .served) (nth us k .output .0) (nth us k .input .0)
+  pub inputs : Added (q .inputs) (nth us k .input .0) (next .inputs)
+  pub outputs : Added (q .outputs) (nth us k .output .0) (next .outputs)
+  pub served : ms ≡ set ns (nth us k .output .0) (nth us k .input .0)
 
--- us and q show that the records of p were picked from cs: they are ready, their ports are taken, their inputs are noted at their outputs
-pub record Shows (cs : List Cell) (p : ℕ → Bool) (us : List Cell) (q : Picked) : Type 0 where
+-- us, q and ns show that the records of p were picked from cs: they are ready, their ports are taken, their inputs are noted at their outputs
+pub record Shows (cs : List Cell) (p : ℕ → Bool) (us : List Cell) (q : Taken) (ns : List ℕ) : Type 0 where
   pub cells : us ≡ moved p cs
-  pub inputs : (i : ℕ) → has (q .taken .inputs) i ≡ isTakenInput p cs (inputOf i)
-  pub outputs : (o : ℕ) → has (q .taken .outputs) o ≡ isTakenOutput p cs (outputOf o)
-  pub long : length (q .served) ≡ 16
-  pub served : (k : ℕ) → k < length cs → So (p k) → getD (q .served) (nth cs k .output .0) 0 ≡ nth cs k .input .0
+  pub inputs : (i : ℕ) → has (q .inputs) i ≡ isTakenInput p cs (inputOf i)
+  pub outputs : (o : ℕ) → has (q .outputs) o ≡ isTakenOutput p cs (outputOf o)
+  pub long : length ns ≡ 16
+  pub served : (k : ℕ) → k < length cs → So (p k) → getD ns (nth cs k .output .0) 0 ≡ nth cs k .input .0
 
 -- What the code's masks say of a record -------------------------------------------------------------
 
@@ -136,15 +136,15 @@ candidate-same : (a b c d : ℕ → Bool) → ((i : ℕ) → a i ≡ b i) → ((
 unfolding candidate
 candidate-same a b c d e f x = rw (e (x .input .0), f (x .output .0))
 
-module _ {cs : List Cell} {p : ℕ → Bool} {us : List Cell} {q : Picked} (s : Shows cs p us q) where
+module _ {cs : List Cell} {p : ℕ → Bool} {us : List Cell} {q : Taken} {ns : List ℕ} (s : Shows cs p us q ns) where
   -- what the scan of the code finds is what the rules' round picks
-  pub finds : (r : List ℕ) → firstCandidate r (has (q .taken .inputs)) (has (q .taken .outputs)) us ≡ firstOpen r cs p
+  pub finds : (r : List ℕ) → firstCandidate r (has (q .inputs)) (has (q .outputs)) us ≡ firstOpen r cs p
   unfolding firstCandidate firstOpen
   finds r =
-      ap (λ (v : List Cell). firstCandidate r (has (q .taken .inputs)) (has (q .taken .outputs)) v) (s .cells)
-      ∙ ap (λ (n : ℕ). least (λ k. candidate (has (q .taken .inputs)) (has (q .taken .outputs)) (nth (moved p cs) k)) (λ i j. before r (nth (moved p cs) i) (nth (moved p cs) j)) n) (length-moved p cs)
+      ap (λ (v : List Cell). firstCandidate r (has (q .inputs)) (has (q .outputs)) v) (s .cells)
+      ∙ ap (λ (n : ℕ). least (λ k. candidate (has (q .inputs)) (has (q .outputs)) (nth (moved p cs) k)) (λ i j. before r (nth (moved p cs) i) (nth (moved p cs) j)) n) (length-moved p cs)
       ∙ least-same _ (isOpen cs p) _ (λ i j. before r (nth cs i) (nth cs j)) (length cs)
-      (λ k l. candidate-same (has (q .taken .inputs)) _ (has (q .taken .outputs)) _ (s .inputs) (s .outputs) (nth (moved p cs) k) ∙ open-moved cs p k l)
+      (λ k l. candidate-same (has (q .inputs)) _ (has (q .outputs)) _ (s .inputs) (s .outputs) (nth (moved p cs) k) ∙ open-moved cs p k l)
       (λ i j l m. before-same r _ _ _ _ (moved-same cs p i l) (moved-same cs p j m))
 
   pub cell-same : (k : ℕ) → k < length cs → Same (nth us k) (nth cs k)
@@ -189,8 +189,8 @@ added m a r t u h e here up down i =
     (λ x. h .others i (eqb-false i a x) ∙ e i ∙ same-test (t i) (u i) (up i) (λ y. ⊎-elim (λ z. z) (λ z. absurd (eqb-false i a x z)) (down i y)))
     (passes (eqb i a))
 
-module _ {cs : List Cell} {p : ℕ → Bool} {us vs : List Cell} {q next : Picked} (s : Shows cs p us q) (k : ℕ) (l : k < length cs) (o : So (isOpen cs p k)) (t : Takes us q k vs next) where
-  pub shows-add : nth cs k .output .0 < 16 → Shows cs (add p k) vs next
+module _ {cs : List Cell} {p : ℕ → Bool} {us vs : List Cell} {q next : Taken} {ns ms : List ℕ} (s : Shows cs p us q ns) (k : ℕ) (l : k < length cs) (o : So (isOpen cs p k)) (t : Takes us q ns k vs next ms) where
+  pub shows-add : nth cs k .output .0 < 16 → Shows cs (add p k) vs next ms
   shows-add small =
       record {
         cells = t .cells ∙ ap (λ (w : List Cell). set w k (placed 2 (nth w k))) (s .cells) ∙ moved-add cs p k l;
@@ -204,27 +204,27 @@ module _ {cs : List Cell} {p : ℕ → Bool} {us vs : List Cell} {q next : Picke
             (→taken cs (add p k) (nth cs k .output) k l (self-add p k) refl)
             (λ i x. let d = taken→ cs p (outputOf i) x in →taken cs (add p k) (outputOf i) (d .0) (d .1) (to-add p k (d .0) (d .2)) (d .3))
             (λ i x. let d = taken→ cs (add p k) (outputOf i) x in ⊎-elim (λ y. inl (→taken cs p (outputOf i) (d .0) (d .1) y (d .3))) (λ y. inr (sym (d .3) ∙ ap (λ (j : ℕ). nth cs j .output .0) y)) (in-add p k (d .0) (d .2)));
-        long = ap length noted ∙ length-set (q .served) _ _ ∙ s .long;
-        served = λ j m x. ap (λ (w : List ℕ). getD w (nth cs j .output .0) 0) noted ∙ ⊎-elim (λ y. was j m y) (λ (y : j ≡ k). rw y (getD-set-same (q .served) (nth cs k .output .0) (nth cs k .input .0) 0 (rw (s .long) small))) (in-add p k j x);
+        long = ap length noted ∙ length-set ns _ _ ∙ s .long;
+        served = λ j m x. ap (λ (w : List ℕ). getD w (nth cs j .output .0) 0) noted ∙ ⊎-elim (λ y. was j m y) (λ (y : j ≡ k). rw y (getD-set-same ns (nth cs k .output .0) (nth cs k .input .0) 0 (rw (s .long) small))) (in-add p k j x);
       }
     where
       same : Same (nth us k) (nth cs k)
       same = cell-same s k l
 
-      noted : next .served ≡ set (q .served) (nth cs k .output .0) (nth cs k .input .0)
-      noted = t .served ∙ ap₂ (λ (a b : ℕ). set (q .served) a b) (same .output) (same .input)
+      noted : ms ≡ set ns (nth cs k .output .0) (nth cs k .input .0)
+      noted = t .served ∙ ap₂ (λ (a b : ℕ). set ns a b) (same .output) (same .input)
 
       -- an output that was served before is another one
-      was : (j : ℕ) → j < length cs → So (p j) → getD (set (q .served) (nth cs k .output .0) (nth cs k .input .0)) (nth cs j .output .0) 0 ≡ nth cs j .input .0
+      was : (j : ℕ) → j < length cs → So (p j) → getD (set ns (nth cs k .output .0) (nth cs k .input .0)) (nth cs j .output .0) 0 ≡ nth cs j .input .0
       was j m x =
-          getD-set-other (q .served) (nth cs k .output .0) (nth cs j .output .0) (nth cs k .input .0) 0
+          getD-set-other ns (nth cs k .output .0) (nth cs j .output .0) (nth cs k .input .0) 0
           (λ e. open→ cs p k o .1 j m x (by-output (nth cs j) (nth cs k) e))
           ∙ s .served j m x
 
 -- nothing is picked yet
-pub shows-none : (cs : List Cell) (q : Picked) → q .taken .inputs ≡ 0 → q .taken .outputs ≡ 0 → length (q .served) ≡ 16 → Shows cs none cs q
+pub shows-none : (cs : List Cell) (q : Taken) (ns : List ℕ) → q .inputs ≡ 0 → q .outputs ≡ 0 → length ns ≡ 16 → Shows cs none cs q ns
 unfolding none
-shows-none cs q i o l =
+shows-none cs q ns i o l =
     record {
       cells = ext-getD free cs (moved none cs) (sym (length-moved none cs)) (λ k m. sym (moved-no none cs k m refl));
       inputs = λ a. ap (λ (m : ℕ). has m a) i ∙ has-none a ∙ sym (to-no (λ x. let d = takenIn→ cs none (inputOf a) x in false≢true (d .2)));

@@ -1,13 +1,15 @@
--- A round by the queues' heads: the outputs with the lowest reading among those that can be served, the first cell for each, the first of these.
+-- A round by the queues' heads: the outputs with the lowest reading among those that can be served, kept from round to round, the first cell for
+-- each, the first of these.
 -- Assumes nothing.
 use Prim.Native.Nat.{ℕ, _^_, _≤_, _<_}
 use mathlib.Core.Path.{_≡_, refl, sym, ap, _∙_, subst}
 use mathlib.Core.Logic.{_⊎_, inl, inr, ⊎-elim}
-use mathlib.Core.Bool.{Bool, So, true, false, not, _&&_, false≢true, and-true, and-not-self}
+use mathlib.Core.Bool.{Bool, So, not, _&&_, false≢true, and-true}
 use mathlib.Core.List.{List}
 use native.Mathlib.Omega.{arith}
 use lib.Dec.{eqb}
-use lib.ListN.{length}
+use lib.ListN.{length, length-set}
+use lib.Seq.{getD-set-same, getD-set-other}
 use borrow.Author.Tests.{eqb-true, eqb-false, eq-eqb}
 use Rattle.laws.specs.Tests.{No, passes, refuted, to-no, both, join, denied, deny}
 use Rattle.laws.specs.Count.{any, any→, →any}
@@ -17,22 +19,31 @@ use Rattle.laws.specs.First.{Ahead, First, firstFound, first-join, first-alike,
 use Rattle.laws.specs.declared.Found.{Found}
 use Rattle.laws.specs.declared.Found.the-variants.{At, Nothing}
 use Rattle.ports.specs.Ports.{has, Added, Removed, Except}
-use Rattle.ports.specs.PortLaws.{has-none, none-inside, removed-part, removed-out, removed-split, added-split}
+use Rattle.ports.specs.PortLaws.{has-none, none-inside, removed-part, removed-out, removed-split, added-kept, added-split}
 use Rattle.rules.specs.declared.Cell.{Cell}
-use Rattle.rules.specs.Cells.{nth, outputOf, isWaiting, older, before, readingFor}
+use Rattle.rules.specs.Cells.{free, placed, nth, outputOf, isWaiting, older, before, readingFor}
 use Rattle.ideal.specs.Cells.{waiting→, older-ranks, before-ranks}
 use Rattle.queues.specs.Queues.{pair, named, named-name, isFound, headWord, senders, wanted, waitsFor, waits→, →waits, headBelow, headOf, Ports, All, Queues}
 use Rattle.table.specs.Table.{olderAt}
 use Rattle.queues.specs.Heads.{head-below}
-use Rattle.matching.specs.Picking.{candidate, firstCandidate, InPorts}
+use Rattle.matching.specs.declared.Taken.{Taken}
+use Rattle.matching.specs.Picking.{candidate, firstCandidate, InPorts, Takes}
 
 -- record i stands before record j
 abbrev beforeAt : List ℕ → List Cell → ℕ → ℕ → Bool
 beforeAt r cs i j = before r (nth cs i) (nth cs j)
 
+-- a waiting cell whose input is not in the one set and whose output is in the other
+unfoldable pub waitsAmong : (ℕ → Bool) → (ℕ → Bool) → Cell → Bool
+waitsAmong ins outs c = isWaiting c && not (ins (c .input .0)) && outs (c .output .0)
+
+-- of those, the oldest
+unfoldable pub firstAmong : (ℕ → Bool) → (ℕ → Bool) → List Cell → Found
+firstAmong ins outs cs = least (λ k. waitsAmong ins outs (nth cs k)) (olderAt cs) (length cs)
+
 -- a waiting cell for output o whose input is not in the set
 unfoldable pub waitsOn : (ℕ → Bool) → ℕ → Cell → Bool
-waitsOn ins o c = isWaiting c && not (ins (c .input .0)) && eqb (c .output .0) o
+waitsOn ins o c = waitsAmong ins (λ p. eqb p o) c
 
 -- of those, the oldest
 unfoldable pub firstFor : (ℕ → Bool) → ℕ → List Cell → Found
@@ -49,17 +60,26 @@ in-ports l f = record {
   outputs = λ k i w. omega (arith, f .outputs k i (waiting→ _ w), l);
 }
 
+module _ (ins outs : ℕ → Bool) (c : Cell) where
+  among→ : So (waitsAmong ins outs c) → So (isWaiting c) × No (ins (c .input .0)) × So (outs (c .output .0))
+  unfolding waitsAmong
+  among→ h =
+      let a = both (isWaiting c && not (ins (c .input .0))) _ h in
+      let b = both (isWaiting c) _ (a .0) in
+      (b .0, denied _ (b .1), a .1)
+
+  →among : So (isWaiting c) → No (ins (c .input .0)) → So (outs (c .output .0)) → So (waitsAmong ins outs c)
+  unfolding waitsAmong
+  →among w n m = join _ _ (join _ _ w (deny _ n)) m
+
 module _ (ins : ℕ → Bool) (o : ℕ) (c : Cell) where
   pub waitsOn→ : So (waitsOn ins o c) → So (isWaiting c) × No (ins (c .input .0)) × (c .output .0 ≡ o)
   unfolding waitsOn
-  waitsOn→ h =
-      let a = both (isWaiting c && not (ins (c .input .0))) _ h in
-      let b = both (isWaiting c) _ (a .0) in
-      (b .0, denied _ (b .1), eqb-true (c .output .0) o (a .1))
+  waitsOn→ h = let a = among→ ins (λ p. eqb p o) c h in (a .0, a .1, eqb-true (c .output .0) o (a .2))
 
   pub →waitsOn : So (isWaiting c) → No (ins (c .input .0)) → c .output .0 ≡ o → So (waitsOn ins o c)
   unfolding waitsOn
-  →waitsOn w n e = join _ _ (join _ _ w (deny _ n)) (eq-eqb _ _ e)
+  →waitsOn w n e = →among ins (λ p. eqb p o) c w n (eq-eqb _ _ e)
 
 module _ (ins outs : ℕ → Bool) (c : Cell) where
   pub candidate→ : So (candidate ins outs c) → So (isWaiting c) × No (ins (c .input .0)) × No (outs (c .output .0))
@@ -274,85 +294,150 @@ before-lower : (r : List ℕ) (c d : Cell) → readingFor r (c .output) < readin
 unfolding before
 before-lower r c d l = lower-below _ _ _ l
 
--- The round -------------------------------------------------------------------------------------------
+-- From round to round --------------------------------------------------------------------------------
 
--- found is the oldest of the candidates whose outputs are in the set and not left
-pub record Round (ins outs : ℕ → Bool) (cs : List Cell) (s left : ℕ) (found : Found) : Type 0 where
-  pub part : (o : ℕ) → So (has left o) → So (has s o)
-  pub first : First (λ k. candidate ins outs (nth cs k) && (has s (nth cs k .output .0) && not (has left (nth cs k .output .0)))) (olderAt cs) (length cs) found
+-- the outputs of the set have one reading; every other that is not taken and can be served has a higher
+pub record Kept (r : List ℕ) (ins outs : ℕ → Bool) (cs : List Cell) (s : ℕ) : Type 0 where
+  pub alike : (o p : ℕ) → So (has s o) → So (has s p) → readingFor r (outputOf o) ≡ readingFor r (outputOf p)
+  pub beyond : (o p : ℕ) → So (has s o) → p < 16 → No (outs p) → So (isServable ins p cs) → No (has s p) → readingFor r (outputOf o) < readingFor r (outputOf p)
 
-module _ {ins outs : ℕ → Bool} {cs : List Cell} {s : ℕ} where
-  pub round-none : Round ins outs cs s s Nothing
-  round-none = record {
-    part = λ o h. h;
-    first = λ k l h. refuted (both (candidate ins outs (nth cs k)) _ h .1) (and-not-self (has s (nth cs k .output .0)));
+pub kept-none : (r : List ℕ) (ins outs : ℕ → Bool) (cs : List Cell) → Kept r ins outs cs 0
+kept-none r ins outs cs = record { alike = λ o p x. absurd (refuted x (has-none o)); beyond = λ o p x. absurd (refuted x (has-none o)) }
+
+pub kept-lows : {r : List ℕ} {ins outs : ℕ → Bool} {cs : List Cell} {s : ℕ} → Lows r ins outs cs s → Kept r ins outs cs s
+kept-lows {r} {ins} {outs} {cs} {s} w = record {
+  alike = λ o p x y. w .all .inside o x .2 ∙ sym (w .all .inside p y .2);
+  beyond = λ o p x l n y m. omega (arith, w .all .inside o x .2, w .all .beyond p l n (has-none p) y m);
+}
+
+-- the taken ones go
+module _ {s taken left : ℕ} (e : Except s taken left) where
+  pub left-free : (o : ℕ) → So (has left o) → No (has taken o)
+  left-free o x = denied _ (both (has s o) _ (sym (e .each o) ∙ x) .1)
+
+  pub kept-left : {r : List ℕ} {ins : ℕ → Bool} {cs : List Cell} → Kept r ins (has taken) cs s → Kept r ins (has taken) cs left
+  kept-left {r} {ins} {cs} h = record {
+    alike = λ o p x y. h .alike o p (was o x) (was p y);
+    beyond = λ o p x l n y m. h .beyond o p (was o x) l n y (to-no (λ z. refuted (e .each p ∙ join _ _ z (deny _ n)) m));
+  }
+    where
+      was : (o : ℕ) → So (has left o) → So (has s o)
+      was o x = both (has s o) _ (sym (e .each o) ∙ x) .0
+
+-- a cell is taken: the readings stay, and what can be served gets less
+module _ {us vs : List Cell} {q next : Taken} {ns ms : List ℕ} {k : ℕ} (t : Takes us q ns k vs next ms) (l : k < length us) where
+  -- a cell that still waits is another one
+  still : (j : ℕ) → So (isWaiting (nth vs j)) → nth vs j ≡ nth us j
+  still j w =
+      ⊎-elim
+      (λ x. let e : j ≡ k = eqb-true j k x in absurd (omega (arith, waiting→ _ w, ap (λ (c : Cell). c .place) (ap (λ (i : ℕ). nth vs i) e ∙ ap (λ (cs : List Cell). nth cs k) (t .cells) ∙ getD-set-same us k (placed 2 (nth us k)) free l))))
+      (λ x. ap (λ (cs : List Cell). nth cs j) (t .cells) ∙ getD-set-other us k j (placed 2 (nth us k)) free (eqb-false j k x))
+      (passes (eqb j k))
+
+  still-servable : (o : ℕ) → So (isServable (has (next .inputs)) o vs) → So (isServable (has (q .inputs)) o us)
+  unfolding isServable
+  still-servable o h =
+      let j = any→ (λ j. waitsOn (has (next .inputs)) o (nth vs j)) (length vs) h in
+      let w = waitsOn→ (has (next .inputs)) o (nth vs (j .0)) (j .2) in
+      let e = still (j .0) (w .0) in
+      →any (λ j. waitsOn (has (q .inputs)) o (nth us j)) (length us) (j .0) (omega (arith, j .1, ap length (t .cells), length-set us k (placed 2 (nth us k))))
+      (rw (← e) (→waitsOn (has (q .inputs)) o (nth vs (j .0)) (w .0) (to-no (λ x. refuted (added-kept (t .inputs) _ x) (w .1))) (w .2)))
+
+  pub kept-take : {r : List ℕ} {s : ℕ} → Kept r (has (q .inputs)) (has (q .outputs)) us s → Kept r (has (next .inputs)) (has (next .outputs)) vs s
+  kept-take {r} {s} h = record {
+    alike = h .alike;
+    beyond = λ o p x m n y z. h .beyond o p x m (to-no (λ v. refuted (added-kept (t .outputs) p v) n)) (still-servable p y) z;
   }
 
-  pub round-below : {left : ℕ} {found : Found} → Round ins outs cs s left found → Below (length cs) found
-  round-below {left} {found} t = first-below (λ k. candidate ins outs (nth cs k) && (has s (nth cs k .output .0) && not (has left (nth cs k .output .0)))) (olderAt cs) (length cs) found (t .first)
+-- The round -------------------------------------------------------------------------------------------
 
-  module _ {r : List ℕ} (w : Lows r ins outs cs s) where
-    pub round-more : {left rest : ℕ} {found : Found} (o : ℕ) → Round ins outs cs s left found → So (has left o) → Removed left o rest
-        → Round ins outs cs s rest (firstFound (olderAt cs) found (firstFor ins o cs))
-    round-more {left} {rest} {found} o t h d = record {
-      part = λ p x. t .part p (removed-part d p x);
-      first =
-          first-join (olderAt cs) (ranks-on older older-ranks (nth cs)) _ (λ k. waitsOn ins o (nth cs k)) _ (length cs)
-          (λ k l x.
-          let a = both (candidate ins outs (nth cs k)) _ x in
-          let b = both (has s (nth cs k .output .0)) _ (a .1) in
-          join _ _ (a .0) (join _ _ (b .0) (deny _ (removed-out d _ (denied _ (b .1))))))
-          (λ k l x.
-          let v = waitsOn→ ins o (nth cs k) x in
-          join _ _ (→candidate ins outs (nth cs k) (v .0) (v .1) (ap outs (v .2) ∙ w .all .inside o (t .part o h) .1)) (join _ _ (ap (has s) (v .2) ∙ t .part o h) (deny _ (ap (has rest) (v .2) ∙ d .outside))))
-          (λ k l x.
-          let a = both (candidate ins outs (nth cs k)) _ x in
-          let b = both (has s (nth cs k .output .0)) _ (a .1) in
-          let v = candidate→ ins outs (nth cs k) (a .0) in
-          ⊎-elim (λ e. inr (→waitsOn ins o (nth cs k) (v .0) (v .1) e)) (λ n. inl (join _ _ (a .0) (join _ _ (b .0) (deny _ n)))) (removed-split d (nth cs k .output .0) (denied _ (b .1))))
-          found (firstFor ins o cs) (t .first) (first-for ins o cs);
-    }
+-- found is the oldest of the cells whose inputs are not in the one set and whose outputs are in the other and not left
+pub record Round (ins : ℕ → Bool) (cs : List Cell) (s left : ℕ) (found : Found) : Type 0 where
+  pub part : (o : ℕ) → So (has left o) → So (has s o)
+  pub first : First (λ k. waitsAmong ins (has s) (nth cs k) && not (has left (nth cs k .output .0))) (olderAt cs) (length cs) found
 
-    module _ (f : Ports cs) where
-      -- a candidate beyond the set
-      servable : (k : ℕ) → k < length cs → So (candidate ins outs (nth cs k)) → So (isServable ins (nth cs k .output .0) cs)
-      unfolding isServable
-      servable k l x = let v = candidate→ ins outs (nth cs k) x in →any (λ j. waitsOn ins (nth cs k .output .0) (nth cs j)) (length cs) k l (→waitsOn ins (nth cs k .output .0) (nth cs k) (v .0) (v .1) refl)
+module _ {ins : ℕ → Bool} {cs : List Cell} {s : ℕ} where
+  pub round-none : Round ins cs s s Nothing
+  round-none = record {
+    part = λ o h. h;
+    first = λ k l h. let b = both (waitsAmong ins (has s) (nth cs k)) _ h in refuted (among→ ins (has s) (nth cs k) (b .0) .2) (denied _ (b .1));
+  }
 
-      inset : (k : ℕ) → So (candidate ins outs (nth cs k)) → So (has s (nth cs k .output .0)) → So (candidate ins outs (nth cs k) && (has s (nth cs k .output .0) && not (has 0 (nth cs k .output .0))))
-      inset k x y = join _ _ x (join _ _ y (deny _ (has-none _)))
+  pub round-more : {left rest : ℕ} {found : Found} (o : ℕ) → Round ins cs s left found → So (has left o) → Removed left o rest
+      → Round ins cs s rest (firstFound (olderAt cs) found (firstFor ins o cs))
+  round-more {left} {rest} {found} o t h d = record {
+    part = λ p x. t .part p (removed-part d p x);
+    first =
+        first-join (olderAt cs) (ranks-on older older-ranks (nth cs)) _ (λ k. waitsOn ins o (nth cs k)) _ (length cs)
+        (λ k l x. let b = both (waitsAmong ins (has s) (nth cs k)) _ x in join _ _ (b .0) (deny _ (removed-out d _ (denied _ (b .1)))))
+        (λ k l x.
+        let v = waitsOn→ ins o (nth cs k) x in
+        join _ _ (→among ins (has s) (nth cs k) (v .0) (v .1) (ap (has s) (v .2) ∙ t .part o h)) (deny _ (ap (has rest) (v .2) ∙ d .outside)))
+        (λ k l x.
+        let b = both (waitsAmong ins (has s) (nth cs k)) _ x in
+        let v = among→ ins (has s) (nth cs k) (b .0) in
+        ⊎-elim (λ e. inr (→waitsOn ins o (nth cs k) (v .0) (v .1) e)) (λ n. inl (join _ _ (b .0) (deny _ n))) (removed-split d (nth cs k .output .0) (denied _ (b .1))))
+        found (firstFor ins o cs) (t .first) (first-for ins o cs);
+  }
 
-      member : (p : ℕ) → So (isServable ins p cs) → No (outs p) → (k : ℕ) × (k < length cs) × So (candidate ins outs (nth cs k)) × (nth cs k .output .0 ≡ p)
-      unfolding isServable
-      member p x n =
-          let k = any→ (λ j. waitsOn ins p (nth cs j)) (length cs) x in
-          let v = waitsOn→ ins p (nth cs (k .0)) (k .2) in
-          (k .0, k .1, →candidate ins outs (nth cs (k .0)) (v .0) (v .1) (ap outs (v .2) ∙ n), v .2)
+  pub round-below : {left : ℕ} {found : Found} → Round ins cs s left found → Below (length cs) found
+  round-below {left} {found} t = first-below (λ k. waitsAmong ins (has s) (nth cs k) && not (has left (nth cs k .output .0))) (olderAt cs) (length cs) found (t .first)
 
-      whole : (found : Found) → Round ins outs cs s 0 found → First (λ k. candidate ins outs (nth cs k)) (beforeAt r cs) (length cs) found
-      whole (At k) t =
-          let a = both (candidate ins outs (nth cs k)) _ (t .first .1) in
-          let b = both (has s (nth cs k .output .0)) _ (a .1) in (
-            t .first .0,
-            a .0,
-            λ j l x. ⊎-elim
-                (λ y. ahead r (nth cs) k j (w .all .inside (nth cs k .output .0) (b .0) .2 ∙ sym (w .all .inside (nth cs j .output .0) y .2)) (t .first .2 j l (inset j x y)))
-                (λ y.
-                let v = candidate→ ins outs (nth cs j) x in
-                inl (before-lower r (nth cs k) (nth cs j) (omega (arith, w .all .inside (nth cs k .output .0) (b .0) .2, w .all .beyond (nth cs j .output .0) (f .outputs j l (v .0)) (v .2) (has-none (nth cs j .output .0)) (servable j l x) y))))
-                (passes (has s (nth cs j .output .0))),
-          )
-      whole Nothing t = λ j l x.
-          ⊎-elim
-          (λ y. t .first j l (inset j x y))
-          (λ y.
-          let v = candidate→ ins outs (nth cs j) x in
-          let p = w .all .some (nth cs j .output .0) (f .outputs j l (v .0)) (v .2) (has-none (nth cs j .output .0)) (servable j l x) in
-          let g = w .all .inside (p .0) (p .1) in
-          let k = member (p .0) (g .0) (g .1) in
-          t .first (k .0) (k .1) (inset (k .0) (k .2) (ap (has s) (k .3) ∙ p .1)))
-          (passes (has s (nth cs j .output .0)))
+  pub round-all : {found : Found} → Round ins cs s 0 found → found ≡ firstAmong ins (has s) cs
+  unfolding firstAmong
+  round-all {found} t =
+      first-least (olderAt cs) (ranks-on older older-ranks (nth cs)) (λ k. waitsAmong ins (has s) (nth cs k)) (length cs) found
+      (first-alike _ _ _ _ (length cs) (λ k l. ap (λ (b : Bool). waitsAmong ins (has s) (nth cs k) && not b) (has-none (nth cs k .output .0)) ∙ and-true (waitsAmong ins (has s) (nth cs k))) (λ j k l m x y. refl) found (t .first))
 
-      pub round-all : {found : Found} → Round ins outs cs s 0 found → found ≡ firstCandidate r ins outs cs
-      unfolding firstCandidate
-      round-all {found} t = first-least (beforeAt r cs) (ranks-on (before r) (before-ranks r) (nth cs)) (λ k. candidate ins outs (nth cs k)) (length cs) found (whole found t)
+-- What the round finds --------------------------------------------------------------------------------
+
+first-among : (ins : ℕ → Bool) (s : ℕ) (cs : List Cell) → First (λ k. waitsAmong ins (has s) (nth cs k)) (olderAt cs) (length cs) (firstAmong ins (has s) cs)
+unfolding firstAmong
+first-among ins s cs = least-first (olderAt cs) (ranks-on older older-ranks (nth cs)) (λ k. waitsAmong ins (has s) (nth cs k)) (length cs)
+
+is-first : (r : List ℕ) (ins outs : ℕ → Bool) (cs : List Cell) (found : Found) → First (λ k. candidate ins outs (nth cs k)) (beforeAt r cs) (length cs) found → found ≡ firstCandidate r ins outs cs
+unfolding firstCandidate
+is-first r ins outs cs found h = first-least (beforeAt r cs) (ranks-on (before r) (before-ranks r) (nth cs)) (λ k. candidate ins outs (nth cs k)) (length cs) found h
+
+-- the output of a candidate can be served
+servable : (ins outs : ℕ → Bool) (cs : List Cell) (k : ℕ) → k < length cs → So (candidate ins outs (nth cs k)) → So (isServable ins (nth cs k .output .0) cs)
+unfolding isServable
+servable ins outs cs k l x = let v = candidate→ ins outs (nth cs k) x in →any (λ j. waitsOn ins (nth cs k .output .0) (nth cs j)) (length cs) k l (→waitsOn ins (nth cs k .output .0) (nth cs k) (v .0) (v .1) refl)
+
+-- and one that can be served has a cell
+served : (ins : ℕ → Bool) (cs : List Cell) (s o : ℕ) → So (has s o) → So (isServable ins o cs) → (k : ℕ) × (k < length cs) × So (waitsAmong ins (has s) (nth cs k))
+unfolding isServable
+served ins cs s o y x =
+    let k = any→ (λ j. waitsOn ins o (nth cs j)) (length cs) x in
+    let v = waitsOn→ ins o (nth cs (k .0)) (k .2) in
+    (k .0, k .1, →among ins (has s) (nth cs (k .0)) (v .0) (v .1) (ap (has s) (v .2) ∙ y))
+
+-- among outputs that are kept and not taken, the oldest cell is the first candidate
+module _ {r : List ℕ} {ins outs : ℕ → Bool} {cs : List Cell} {s : ℕ} (f : Ports cs) (h : Kept r ins outs cs s) (n : (o : ℕ) → So (has s o) → No (outs o)) where
+  oldest : (k : ℕ) → First (λ k. waitsAmong ins (has s) (nth cs k)) (olderAt cs) (length cs) (At k) → First (λ k. candidate ins outs (nth cs k)) (beforeAt r cs) (length cs) (At k)
+  oldest k t =
+      let a = among→ ins (has s) (nth cs k) (t .1) in (
+        t .0,
+        →candidate ins outs (nth cs k) (a .0) (a .1) (n (nth cs k .output .0) (a .2)),
+        λ j l x.
+            let v = candidate→ ins outs (nth cs j) x in
+            ⊎-elim
+            (λ y. ahead r (nth cs) k j (h .alike (nth cs k .output .0) (nth cs j .output .0) (a .2) y) (t .2 j l (→among ins (has s) (nth cs j) (v .0) (v .1) y)))
+            (λ y. inl (before-lower r (nth cs k) (nth cs j) (h .beyond (nth cs k .output .0) (nth cs j .output .0) (a .2) (f .outputs j l (v .0)) (v .2) (servable ins outs cs j l x) y)))
+            (passes (has s (nth cs j .output .0))),
+      )
+
+  pub kept-first : {k : ℕ} → firstAmong ins (has s) cs ≡ At k → At k ≡ firstCandidate r ins outs cs
+  kept-first {k} e = is-first r ins outs cs (At k) (oldest k (subst (λ (x : Found). First (λ k. waitsAmong ins (has s) (nth cs k)) (olderAt cs) (length cs) x) e (first-among ins s cs)))
+
+-- among the outputs with the lowest reading there is a cell where there is a candidate
+pub lows-first : {r : List ℕ} {ins outs : ℕ → Bool} {cs : List Cell} {s : ℕ} → Ports cs → Lows r ins outs cs s → firstAmong ins (has s) cs ≡ firstCandidate r ins outs cs
+lows-first {r} {ins} {outs} {cs} {s} f w = is-first r ins outs cs _ (go (firstAmong ins (has s) cs) (first-among ins s cs))
+  where
+    go : (found : Found) → First (λ k. waitsAmong ins (has s) (nth cs k)) (olderAt cs) (length cs) found → First (λ k. candidate ins outs (nth cs k)) (beforeAt r cs) (length cs) found
+    go (At k) t = oldest f (kept-lows w) (λ o x. w .all .inside o x .1) k t
+    go Nothing t = λ j l x.
+        let v = candidate→ ins outs (nth cs j) x in
+        let o = w .all .some (nth cs j .output .0) (f .outputs j l (v .0)) (v .2) (has-none (nth cs j .output .0)) (servable ins outs cs j l x) in
+        let k = served ins cs s (o .0) (o .1) (w .all .inside (o .0) (o .1) .0) in
+        t (k .0) (k .1) (k .2)

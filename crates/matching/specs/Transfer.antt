@@ -24,7 +24,7 @@ use Rattle.rules.specs.Cells.{nth, outputOf, cellsOf, sameOutput}
 use Rattle.rules.specs.Phases.{firstOpen, none, addFound, round, matchOf, isTakenOutput, moves, moved, phase, servedWord, matchWords}
 use Rattle.ideal.specs.Cells.{waiting→}
 use Rattle.ideal.specs.Match.{in-add, open→, taken→}
-use Rattle.matching.specs.declared.Picked.{Picked}
+use Rattle.matching.specs.declared.Taken.{Taken}
 use Rattle.matching.specs.Picking.{InPorts, Shows, open-found}
 
 -- What is picked ------------------------------------------------------------------------------------
@@ -67,12 +67,12 @@ writing-none taken served n =
 pub writing-done : {taken : ℕ} {served ws : List ℕ} → Writing taken served 0 ws → Written taken served ws
 writing-done {taken} {served} {ws} h = record { word = λ o l. h .word o l ∙ ap (λ (b : Bool). cond b (suc (getD served o 0)) 0) (ap (λ (b : Bool). has taken o && not b) (has-none o) ∙ and-true (has taken o)) }
 
-pub writing-more : {taken left o rest : ℕ} {served ws : List ℕ} → Writing taken served left ws → So (has left o) → o < length ws → Removed left o rest → Writing taken served rest (set ws o (suc (getD served o 0)))
-writing-more {taken} {left} {o} {rest} {served} {ws} h x l r =
-    record {
+pub writing-more : {taken left o rest : ℕ} {served ws : List ℕ} → Writing taken served left ws → So (has left o) → o < length ws → Removed left o rest → (v : ℕ) → v ≡ suc (getD served o 0) → Writing taken served rest (set ws o v)
+writing-more {taken} {left} {o} {rest} {served} {ws} h x l r v e =
+    rw e (record {
       part = λ i y. ⊎-elim (λ e. absurd (refuted (ap (has rest) (sym (eqb-true i o e)) ∙ y) (r .outside))) (λ e. h .part i (sym (r .others i (eqb-false i o e)) ∙ y)) (passes (eqb i o));
       word = λ i m. ⊎-elim (here i) (there i (rw (length-set ws o (suc (getD served o 0))) at m)) (passes (eqb i o));
-    }
+    })
   where
     here : (i : ℕ) → So (eqb i o) → getD (set ws o (suc (getD served o 0))) i 0 ≡ cond (has taken i && not (has rest i)) (suc (getD served i 0)) 0
     here i e =
@@ -84,19 +84,19 @@ writing-more {taken} {left} {o} {rest} {served} {ws} h x l r =
         getD-set-other ws o i _ 0 (eqb-false i o e) ∙ h .word i m
         ∙ ap (λ (b : Bool). cond (has taken i && not b) (suc (getD served i 0)) 0) (sym (r .others i (eqb-false i o e)))
 
-module _ {n : ℕ} {cs : List Cell} (small : n ≤ 16) (f : InPorts n cs) (r : List ℕ) {us : List Cell} {q : Picked} (s : Shows cs (matchOf n r cs) us q) where
+module _ {n : ℕ} {cs : List Cell} (small : n ≤ 16) (f : InPorts n cs) (r : List ℕ) {us : List Cell} {q : Taken} {ns : List ℕ} (s : Shows cs (matchOf n r cs) us q ns) where
   -- the record of a taken output
-  serves : (o : ℕ) → So (has (q .taken .outputs) o) → (k : ℕ) × (k < length cs) × So (matchOf n r cs k) × (nth cs k .output .0 ≡ o) × (nth cs k .place ≡ 1)
+  serves : (o : ℕ) → So (has (q .outputs) o) → (k : ℕ) × (k < length cs) × So (matchOf n r cs k) × (nth cs k .output .0 ≡ o) × (nth cs k .place ≡ 1)
   serves o x = let d = taken→ cs (matchOf n r cs) (outputOf o) (sym (s .outputs o) ∙ x) in (d .0, d .1, d .2, d .3, match-waits n r cs (d .0) (d .2) .1)
 
-  pub shows-writable : Writable (q .taken .outputs) (q .served) n
+  pub shows-writable : Writable (q .outputs) ns n
   shows-writable =
       record {
         below = λ o x. let d = serves o x in rw (← d .3) (f .outputs (d .0) (d .1) (d .4));
         inputs = λ o x. let d = serves o x in rw (← d .3, s .served (d .0) (d .1) (d .2)) (omega (arith, f .inputs (d .0) (d .1) (d .4)));
       }
 
-  pub shows-words : (ws : List ℕ) → length ws ≡ n → Written (q .taken .outputs) (q .served) ws → ws ≡ matchWords n (matchOf n r cs) cs
+  pub shows-words : (ws : List ℕ) → length ws ≡ n → Written (q .outputs) ns ws → ws ≡ matchWords n (matchOf n r cs) cs
   unfolding matchWords sameOutput isTakenOutput
   shows-words ws l w =
       ext-getD 0 ws (matchWords n (matchOf n r cs) cs) (l ∙ sym (length-tabulate _ n))
@@ -105,20 +105,20 @@ module _ {n : ℕ} {cs : List Cell} (small : n ≤ 16) (f : InPorts n cs) (r : L
       ∙ go o (lowest (λ k. matchOf n r cs k && sameOutput (nth cs k .output) (outputOf o)) (length cs)) (lowest-is (λ k. matchOf n r cs k && sameOutput (nth cs k .output) (outputOf o)) (length cs))
       ∙ sym (getD-tabulate (λ o. servedWord cs (lowest (λ k. matchOf n r cs k && sameOutput (nth cs k .output) (outputOf o)) (length cs))) n 0 o (rw l at m)))
     where
-      go : (o : ℕ) (x : Found) → Least (λ k. matchOf n r cs k && sameOutput (nth cs k .output) (outputOf o)) ltb (length cs) x → cond (has (q .taken .outputs) o) (suc (getD (q .served) o 0)) 0 ≡ servedWord cs x
+      go : (o : ℕ) (x : Found) → Least (λ k. matchOf n r cs k && sameOutput (nth cs k .output) (outputOf o)) ltb (length cs) x → cond (has (q .outputs) o) (suc (getD ns o 0)) 0 ≡ servedWord cs x
       go o (At k) d =
           let b = both (matchOf n r cs k) _ (d .1) in
           let e : nth cs k .output .0 ≡ o = eqb-true _ _ (b .1) in
-          cond-true _ (suc (getD (q .served) o 0)) 0 (s .outputs o ∙ →any (λ k. matchOf n r cs k && sameOutput (nth cs k .output) (outputOf o)) (length cs) k (d .0) (d .1))
-          ∙ ap suc (ap (λ (i : ℕ). getD (q .served) i 0) (sym e) ∙ s .served k (d .0) (b .0))
-      go o Nothing d = cond-false _ (suc (getD (q .served) o 0)) 0 (s .outputs o ∙ to-no (λ x. let k = any→ (λ k. matchOf n r cs k && sameOutput (nth cs k .output) (outputOf o)) (length cs) x in d (k .0) (k .1) (k .2)))
+          cond-true _ (suc (getD ns o 0)) 0 (s .outputs o ∙ →any (λ k. matchOf n r cs k && sameOutput (nth cs k .output) (outputOf o)) (length cs) k (d .0) (d .1))
+          ∙ ap suc (ap (λ (i : ℕ). getD ns i 0) (sym e) ∙ s .served k (d .0) (b .0))
+      go o Nothing d = cond-false _ (suc (getD ns o 0)) 0 (s .outputs o ∙ to-no (λ x. let k = any→ (λ k. matchOf n r cs k && sameOutput (nth cs k .output) (outputOf o)) (length cs) x in d (k .0) (k .1) (k .2)))
 
   -- as many ports are in the mask as cells move
-  pub shows-moves : count (has (q .taken .outputs)) 16 ≡ moves n (matchOf n r cs) cs
+  pub shows-moves : count (has (q .outputs)) 16 ≡ moves n (matchOf n r cs) cs
   unfolding moves
   shows-moves =
-      count-above (has (q .taken .outputs)) n 16 small (λ o a b x. let d = serves o x in omega (arith, d .3, f .outputs (d .0) (d .1) (d .4)))
-      ∙ count-same (has (q .taken .outputs)) (λ o. isTakenOutput (matchOf n r cs) cs (outputOf o)) n (λ o l x. sym (s .outputs o) ∙ x) (λ o l x. s .outputs o ∙ x)
+      count-above (has (q .outputs)) n 16 small (λ o a b x. let d = serves o x in omega (arith, d .3, f .outputs (d .0) (d .1) (d .4)))
+      ∙ count-same (has (q .outputs)) (λ o. isTakenOutput (matchOf n r cs) cs (outputOf o)) n (λ o l x. sym (s .outputs o) ∙ x) (λ o l x. s .outputs o ∙ x)
 
 -- one phase: the table, the words and the number of moves
 pub record Transferred (n : ℕ) (r table table′ ws : List ℕ) (q : ℕ) : Type 0 where

@@ -10,19 +10,13 @@ ghost use Rattle.rules.specs.Cells.{nth, records, cellsOf};
 ghost use Rattle.rules.specs.Phases.{matchOf, phases};
 ghost use Rattle.rules.specs.Phases.{matches as matchesOf};
 ghost use Rattle.matching.specs.Picking.{firstCandidate, InPorts, Takes, Shows};
-ghost use Rattle.matching.specs.Rounds.{firstFor, isServable, Lowered, Lows};
+ghost use Rattle.matching.specs.Rounds.{firstFor, firstAmong, isServable, Lowered, Lows, Kept};
 ghost use Rattle.matching.specs.Transfer.{Writable, Written, Transferred};
 
 // The taken inputs and the taken outputs are two sets of ports.
 pub struct Taken {
     pub inputs: u16,
     pub outputs: u16,
-}
-
-// What the rounds of a phase picked: the ports taken, and for each taken output the input served.
-pub struct Picked {
-    pub taken: Taken,
-    pub served: [u32; 16],
 }
 
 // Of the waiting cells for an output, at inputs that are not taken, the oldest: a look at the heads.
@@ -101,14 +95,13 @@ fn lowest_readings(table: &[u32], queues: &[u16], r: Reading, taken: Taken) -> u
     lowest.outputs
 }
 
-// Of the waiting cells that conflict with none picked, the one that stands before the others: for an output with the lowest reading, the oldest.
-pub fn first_candidate(table: &[u32], queues: &[u16], r: Reading, taken: Taken) -> Found
+// Of the waiting cells for some outputs, at inputs that are not taken, the oldest.
+fn first_among(table: &[u32], queues: &[u16], inputs: u16, outputs: u16) -> Found
     requires { ⌜ Queues All (cellsOf (now table)) (now queues) ⌝ }
-    ensures { λ q. ⌜ q ≡ firstCandidate (r .counts) (has (taken .inputs)) (has (taken .outputs)) (cellsOf (now (table .entry))) ⌝ }
+    ensures { λ q. ⌜ q ≡ firstAmong (has inputs) (has outputs) (cellsOf (now (table .entry))) ⌝ }
 {
-    let inputs = taken.inputs;
     let mut found = Found::Nothing;
-    let mut left = lowest_readings(table, queues, r, taken);
+    let mut left = outputs;
     while left != 0 {
         let o = ports::lowest(left);
         left = ports::without(left, o);
@@ -117,8 +110,44 @@ pub fn first_candidate(table: &[u32], queues: &[u16], r: Reading, taken: Taken) 
     found
 }
 
-// The cell of record k becomes ready and takes its ports; the head of its pair is found anew.
-fn take(table: &mut [u32], queues: &mut [u16], k: usize, picked: Picked) -> Picked
+// What a round finds, and the outputs that it looked at, for the next round.
+struct Candidate {
+    found: Found,
+    lows: u16,
+}
+
+// Of the waiting cells that conflict with none picked, the one that stands before the others: for an output with the lowest reading, the oldest.
+// The readings stay through a phase, and what can be served only gets less: the outputs that had the lowest reading have it as long as one of
+// them can be served. Only where none can are others looked for.
+fn first_candidate(table: &[u32], queues: &[u16], r: Reading, taken: Taken, lows: u16) -> Candidate
+    requires { ⌜ Queues All (cellsOf (now table)) (now queues) ⌝ }
+    requires { ⌜ Kept (r .counts) (has (taken .inputs)) (has (taken .outputs)) (cellsOf (now table)) lows ⌝ }
+    ensures { λ q. ⌜ q .found ≡ firstCandidate (r .counts) (has (taken .inputs)) (has (taken .outputs)) (cellsOf (now (table .entry))) ⌝ }
+    ensures { λ q. ⌜ Kept (r .counts) (has (taken .inputs)) (has (taken .outputs)) (cellsOf (now (table .entry))) (q .lows) ⌝ }
+{
+    let kept = ports::except(lows, taken.outputs);
+    let found = first_among(table, queues, taken.inputs, kept);
+    if let Found::At(k) = found {
+        return Candidate {
+            found: Found::At(k),
+            lows: kept,
+        };
+    }
+    let next = lowest_readings(table, queues, r, taken);
+    Candidate {
+        found: first_among(table, queues, taken.inputs, next),
+        lows: next,
+    }
+}
+
+// The cell of record k becomes ready and takes its ports, and its input is noted at its output; the head of its pair is found anew.
+fn take(
+    table: &mut [u32],
+    queues: &mut [u16],
+    served: &mut [u32; 16],
+    k: usize,
+    taken: Taken,
+) -> Taken
     requires { ⌜ k < records (now table) ⌝ }
     requires { ⌜ records (now table) ≤ 1024 ⌝ }
     requires { ⌜ Queues All (cellsOf (now table)) (now queues) ⌝ }
@@ -126,63 +155,63 @@ fn take(table: &mut [u32], queues: &mut [u16], k: usize, picked: Picked) -> Pick
     requires { ⌜ nth (cellsOf (now table)) k .output .0 < 16 ⌝ }
     ensures { λ q. ⌜ length (now (table .exit)) ≡ length (now (table .entry)) ⌝ }
     ensures { λ q. ⌜ Queues All (cellsOf (now (table .exit))) (now (queues .exit)) ⌝ }
-    ensures { λ q. ⌜ Takes (cellsOf (now (table .entry))) picked k (cellsOf (now (table .exit))) q ⌝ }
+    ensures { λ q. ⌜ Takes (cellsOf (now (table .entry))) taken (now (served .entry)) k (cellsOf (now (table .exit))) q (now (served .exit)) ⌝ }
 {
     let c = table::cell_at(table, k);
     table::set_place(table, k, 2);
     queues::renew(table, queues, c.input.0, c.output.0);
     let o = c.output.0 as usize;
-    let mut served = picked.served;
     served[o] = c.input.0;
-    let taken = Taken {
-        inputs: ports::with(picked.taken.inputs, c.input.0),
-        outputs: ports::with(picked.taken.outputs, c.output.0),
-    };
-    Picked {
-        taken: taken,
-        served: served,
+    Taken {
+        inputs: ports::with(taken.inputs, c.input.0),
+        outputs: ports::with(taken.outputs, c.output.0),
     }
 }
 
-// Rounds of picking: the first candidate is taken, again and again, until there is none.
-fn pick(table: &mut [u32], queues: &mut [u16], r: Reading, ports: u32) -> Picked
+// Rounds of picking: the first candidate is taken, again and again, until there is none. For each taken output the input served is noted.
+fn pick(
+    table: &mut [u32],
+    queues: &mut [u16],
+    served: &mut [u32; 16],
+    r: Reading,
+    ports: u32,
+) -> Taken
     requires { ⌜ ports ≤ 16 ⌝ }
     requires { ⌜ records (now table) ≤ 1024 ⌝ }
     requires { ⌜ InPorts ports (cellsOf (now table)) ⌝ }
     requires { ⌜ Queues All (cellsOf (now table)) (now queues) ⌝ }
+    requires { ⌜ length (now served) ≡ 16 ⌝ }
     ensures { λ q. ⌜ length (now (table .exit)) ≡ length (now (table .entry)) ⌝ }
     ensures { λ q. ⌜ Queues All (cellsOf (now (table .exit))) (now (queues .exit)) ⌝ }
-    ensures { λ q. ⌜ Shows (cellsOf (now (table .entry))) (matchOf ports (r .counts) (cellsOf (now (table .entry)))) (cellsOf (now (table .exit))) q ⌝ }
+    ensures { λ q. ⌜ Shows (cellsOf (now (table .entry))) (matchOf ports (r .counts) (cellsOf (now (table .entry)))) (cellsOf (now (table .exit))) q (now (served .exit)) ⌝ }
 {
-    let none = Taken {
+    let mut taken = Taken {
         inputs: 0,
         outputs: 0,
     };
-    let mut picked = Picked {
-        taken: none,
-        served: [0u32; 16],
-    };
+    let mut lows = 0;
     let mut round = 0;
     'rounds: while round < ports {
-        let taken = picked.taken;
-        let Found::At(k) = first_candidate(table, queues, r, taken) else {
+        let candidate = first_candidate(table, queues, r, taken, lows);
+        lows = candidate.lows;
+        let found = candidate.found;
+        let Found::At(k) = found else {
             break 'rounds;
         };
-        picked = take(table, queues, k, picked);
+        taken = take(table, queues, served, k, taken);
         round += 1;
     }
-    picked
+    taken
 }
 
 // The match words: 1 + the input served at each taken output, lowest first; 0 at the others.
-fn write_words(words: &mut [u32], picked: Picked)
-    requires { ⌜ Writable (picked .taken .outputs) (picked .served) (length (now words)) ⌝ }
+fn write_words(words: &mut [u32], served: &[u32; 16], outputs: u16)
+    requires { ⌜ Writable outputs (now served) (length (now words)) ⌝ }
     ensures { λ _. ⌜ length (now (words .exit)) ≡ length (now (words .entry)) ⌝ }
-    ensures { λ _. ⌜ Written (picked .taken .outputs) (picked .served) (now (words .exit)) ⌝ }
+    ensures { λ _. ⌜ Written outputs (now (served .entry)) (now (words .exit)) ⌝ }
 {
     table::clear(words);
-    let served = picked.served;
-    let mut left = picked.taken.outputs;
+    let mut left = outputs;
     while left != 0 {
         let o = ports::lowest(left);
         left = ports::without(left, o);
@@ -201,9 +230,10 @@ fn transfer(table: &mut [u32], queues: &mut [u16], words: &mut [u32], r: Reading
     ensures { λ q. ⌜ Queues All (cellsOf (now (table .exit))) (now (queues .exit)) ⌝ }
     ensures { λ q. ⌜ Transferred ports (r .counts) (now (table .entry)) (now (table .exit)) (now (words .exit)) q ⌝ }
 {
-    let picked = pick(table, queues, r, ports);
-    write_words(words, picked);
-    ports::size(picked.taken.outputs)
+    let mut served = [0u32; 16];
+    let taken = pick(table, queues, &mut served, r, ports);
+    write_words(words, &served, taken.outputs);
+    ports::size(taken.outputs)
 }
 
 // S transfer phases by one reading, with all match words. Where a phase moves nothing, those after it move nothing either.

@@ -34,14 +34,14 @@ cast-o c = search needs
 mul-served : tie.Need-mul-served
 mul-served c = search needs
 
-array-write-served : tie.Need-array-write-served
-array-write-served c = ports-of (c .before .before .before .before .before .before .before .before .before .before .before) .1
+element-write-served : tie.Need-element-write-served
+element-write-served c = ports-of (c .before .before .before .before .before .before .before .before .before .before) .1
 
 with-requires : tie.Need-with-requires
-with-requires c κs = ports-of (c .before .before .before .before .before .before .before .before .before .before .before) .0
+with-requires c κs = ports-of (c .before .before .before .before .before .before .before .before .before .before) .0
 
 with-requires-2 : tie.Need-with-requires-2
-with-requires-2 c κs = ports-of (c .before .before .before .before .before .before .before .before .before .before .before .before) .1
+with-requires-2 c κs = ports-of (c .before .before .before .before .before .before .before .before .before .before .before) .1
 
 same-length : tie.Need-same-length
 same-length c = search needs
@@ -51,16 +51,16 @@ same-length-2 c = search needs
 
 returns : tie.Need-returns
 returns c =
-    let e = c .before .before .before .before .before .before .before .before .before .before .before .before .before .cell-at .ensures in
-    let s = c .before .before .before .before .before .before .before .before .before .before .before .set-place .ensures in (
+    let e = c .before .before .before .before .before .before .before .before .before .before .before .before .cell-at .ensures in
+    let s = c .before .before .before .before .before .before .before .before .before .before .set-place .ensures in (
       s .long,
       (
-        c .before .before .before .before .before .before .renew .ensures,
+        c .before .before .before .before .before .renew .ensures,
         record {
           cells = s .cells;
           inputs = rw (← e) (c .before .with .ensures);
           outputs = rw (← e) (c .with2 .ensures);
-          served = ap (λ (d : Cell). set (c .before .before .before .before .before .before .before .before .before .before .before .before .before .before .before .before .before .args .picked .served) (d .output .0) (d .input .0)) e;
+          served = ap (λ (d : Cell). set (now (c .before .before .before .before .before .before .before .before .before .before .before .before .before .before .before .before .args .served)) (d .output .0) (d .input .0)) e;
         },
       ),
     )
@@ -74,7 +74,7 @@ take-spec =
     renew-requires
     cast-o
     mul-served
-    array-write-served
+    element-write-served
     with-requires
     with-requires-2
     same-length
