@@ -198,10 +198,10 @@ pub grown-more : (piece : List ℕ) (v i v′ w j : ℕ) → Grown piece v i v�
 grown-more piece v i v′ w j x l d e = record {
   span = span-more isDigit piece i j (x .span) l d;
   steps =
-    e
-    ∙ ap (λ (n : Number). numberStep n (getD piece j 0)) (x .steps)
-    ∙ sym (fold-more numberStep (Value v) (part piece i j) (getD piece j 0))
-    ∙ sym (ap (λ (y : List ℕ). fold numberStep (Value v) y) (part-more piece i j (x .span .order) l));
+      e
+      ∙ ap (λ (n : Number). numberStep n (getD piece j 0)) (x .steps)
+      ∙ sym (fold-more numberStep (Value v) (part piece i j) (getD piece j 0))
+      ∙ sym (ap (λ (y : List ℕ). fold numberStep (Value v) y) (part-more piece i j (x .span .order) l));
 }
 
 module _ (piece : List ℕ) (stop : ℕ) (no : No (isDigit stop)) where
@@ -325,11 +325,11 @@ module _ (piece : List ℕ) (s : Slot) (i : ℕ) where
   line-field r r′ ws j k x e y = record {
     span = span-join (λ b. not (endsLine b)) piece i j k (x .span) (span-as (λ b. not (ends space b)) piece (λ b. not (endsLine b)) clear-space j k (y .place .span));
     steps =
-      ap (λ (n : ℕ). slot n (r′ .field) ws) e
-      ∙ ap (λ (g : Field). slot (r .at) g ws) (y .steps)
-      ∙ sym (field-steps (r .at) (r .field) ws (part piece j k) (y .place .span .all))
-      ∙ ap (λ (m : Slot). fold slotStep m (part piece j k)) (x .steps)
-      ∙ sym (ap (λ (l : List ℕ). fold slotStep s l) (part-join piece i j k (x .span .order) (y .place .span .order)) ∙ fold-join slotStep s (part piece i j) (part piece j k));
+        ap (λ (n : ℕ). slot n (r′ .field) ws) e
+        ∙ ap (λ (g : Field). slot (r .at) g ws) (y .steps)
+        ∙ sym (field-steps (r .at) (r .field) ws (part piece j k) (y .place .span .all))
+        ∙ ap (λ (m : Slot). fold slotStep m (part piece j k)) (x .steps)
+        ∙ sym (ap (λ (l : List ℕ). fold slotStep s l) (part-join piece i j k (x .span .order) (y .place .span .order)) ∙ fold-join slotStep s (part piece i j) (part piece j k));
   }
 
   pub line-space : (m m′ : Slot) (j : ℕ) → Reached piece s i m j → j < length piece → So (ends space (getD piece j 0)) → (getD piece j 0 ≡ newline → ⊥) → m′ ≡ endField m
@@ -338,11 +338,11 @@ module _ (piece : List ℕ) (s : Slot) (i : ℕ) where
   line-space m m′ j x l h n e = record {
     span = span-more (λ b. not (endsLine b)) piece i j (x .span) l (deny (eqb (getD piece j 0) newline) (ne-eqb (getD piece j 0) newline n));
     steps =
-      e
-      ∙ sym (rw (ends-space (getD piece j 0) n h))
-      ∙ ap (λ (y : Slot). slotStep y (getD piece j 0)) (x .steps)
-      ∙ sym (fold-more slotStep s (part piece i j) (getD piece j 0))
-      ∙ sym (ap (λ (y : List ℕ). fold slotStep s y) (part-more piece i j (x .span .order) l));
+        e
+        ∙ sym (rw (ends-space (getD piece j 0) n h))
+        ∙ ap (λ (y : Slot). slotStep y (getD piece j 0)) (x .steps)
+        ∙ sym (fold-more slotStep s (part piece i j) (getD piece j 0))
+        ∙ sym (ap (λ (y : List ℕ). fold slotStep s y) (part-more piece i j (x .span .order) l));
   }
 
   pub line-taken : (s′ : Slot) (j : ℕ) → Reached piece s i s′ j → (j < length piece → getD piece j 0 ≡ newline) → Taken slotStep endsLine piece s i s′ j

@@ -200,10 +200,7 @@ impl SlotReader {
         let part = field.read(piece, from);
         let read = part.field;
         Part {
-            reader: SlotReader {
-                at,
-                field: read,
-            },
+            reader: SlotReader { at, field: read },
             next: part.next,
         }
     }
