@@ -1,18 +1,17 @@
 -- What the code does with the part of a line that a piece of the input has: the steps over its bytes, up to the byte that ends what is read.
 -- Definitions that its contracts cite, then the laws by which parts are joined, and numbers, fields and lines read at once.
 -- Assumes nothing.
-use Prim.Native.Nat.{ℕ, suc, _+_, _-_, _≤_, _<_}
+use Prim.Native.Nat.{ℕ, _+_, _-_, _≤_, _<_}
 use mathlib.Core.Path.{_≡_, refl, sym, ap, _∙_}
 use mathlib.Core.Logic.{⊎-elim}
-use mathlib.Core.Bool.{Bool, So, true, false, cond, not, _&&_, _||_}
+use mathlib.Core.Bool.{Bool, So, true, false, not, _||_}
 use mathlib.Core.List.{List, [], _∷_, _++_}
 use native.Mathlib.Omega.{arith}
-use native.Mathlib.Numerals.{add-one}
 use lib.Dec.{eqb}
 use lib.ListN.{length, getD, take, drop, take-append-drop}
 use lib.Seq.{drop-cons, drop-drop, take-add}
 use borrow.Author.Tests.{eqb-true, eq-eqb, ne-eqb}
-use Rattle.laws.specs.Tests.{No, both, join, either, on-right, neither, refuted, denied, deny, fails-left}
+use Rattle.laws.specs.Tests.{No, both, join, either, on-right, neither, refuted, denied, deny}
 use Rattle.laws.specs.Folds.{fold, each, fold-more, each-more}
 use Rattle.text.specs.declared.Number.{Number}
 use Rattle.text.specs.declared.Number.the-variants.{Empty, Value, NoNumber}

@@ -1,7 +1,6 @@
 -- Where nothing stands between the digits and the number's end, they are the number; otherwise the first byte there makes it none.
 -- Assumes nothing.
 use native.Mathlib.Omega.{arith}
-use mathlib.Core.Path.{_≡_, sym}
 use Rattle.text.specs.Parts.{value-whole, value-none}
 use borrow.Author.Needs.{needs}
 use Rattle.text.proofs.read_value.Statement.{statement}
