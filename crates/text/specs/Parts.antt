@@ -48,18 +48,19 @@ pub record Upto (end : ℕ → Bool) (piece : List ℕ) (from next : ℕ) : Type
   pub span : Span (λ b. not (end b)) piece from next
   pub here : next < length piece → So (end (getD piece next 0))
 
--- up to there, a state went by its steps
+-- a state went by its steps from one place to another, over bytes that pass a test
+pub record Passed {S : Type 0} (step : S → ℕ → S) (p : ℕ → Bool) (piece : List ℕ) (s : S) (from : ℕ) (s′ : S) (next : ℕ) : Type 0 where
+  pub span : Span p piece from next
+  pub steps : s′ ≡ fold step s (part piece from next)
+
+-- the same up to the first byte that ends what is read
 pub record Taken {S : Type 0} (step : S → ℕ → S) (end : ℕ → Bool) (piece : List ℕ) (s : S) (from : ℕ) (s′ : S) (next : ℕ) : Type 0 where
   pub place : Upto end piece from next
   pub steps : s′ ≡ fold step s (part piece from next)
 
--- the digits of a value, and the same up to a byte that makes it none
-pub record Grown (piece : List ℕ) (v from v′ next : ℕ) : Type 0 where
-  pub span : Span isDigit piece from next
-  pub steps : Value v′ ≡ fold numberStep (Value v) (part piece from next)
-
+-- and over digits, up to a byte that makes the number none
 pub record Grows (piece : List ℕ) (v from v′ next : ℕ) : Type 0 where
-  pub so : Grown piece v from v′ next
+  pub digits : Passed numberStep isDigit piece (Value v) from (Value v′) next
   pub here : next < length piece → grown v′ (getD piece next 0) ≡ NoNumber
 
 -- parts ---------------------------------------------------------------------------------------
@@ -133,28 +134,51 @@ module _ (p : ℕ → Bool) (piece : List ℕ) where
   pub span-as : (q : ℕ → Bool) → ((b : ℕ) → So (p b) → So (q b)) → (i j : ℕ) → Span p piece i j → Span q piece i j
   span-as q f i j x = record { order = x .order; inside = x .inside; all = each-as p q f (part piece i j) (x .all) }
 
--- what is taken -------------------------------------------------------------------------------
+-- what is passed and what is taken ---------------------------------------------------------------
+
+module _ {S : Type 0} (step : S → ℕ → S) (p : ℕ → Bool) (piece : List ℕ) where
+  pub passed-none : (s : S) (i : ℕ) → i ≤ length piece → Passed step p piece s i s i
+  unfolding fold
+  passed-none s i h = record { span = span-none p piece i h; steps = rw (part-none piece i) }
+
+  pub passed-more : (s m t : S) (i j : ℕ) → Passed step p piece s i m j → j < length piece → So (p (getD piece j 0)) → t ≡ step m (getD piece j 0)
+      → Passed step p piece s i t (j + 1)
+  passed-more s m t i j x l h e = record {
+    span = span-more p piece i j (x .span) l h;
+    steps =
+        e
+        ∙ ap (λ (y : S). step y (getD piece j 0)) (x .steps)
+        ∙ sym (fold-more step s (part piece i j) (getD piece j 0))
+        ∙ sym (ap (λ (y : List ℕ). fold step s y) (part-more piece i j (x .span .order) l));
+  }
+
+  pub passed-join : (s m t : S) (i j k : ℕ) → Passed step p piece s i m j → Passed step p piece m j t k → Passed step p piece s i t k
+  passed-join s m t i j k x y = record {
+    span = span-join p piece i j k (x .span) (y .span);
+    steps =
+        y .steps
+        ∙ ap (λ (u : S). fold step u (part piece j k)) (x .steps)
+        ∙ sym (fold-join step s (part piece i j) (part piece j k))
+        ∙ sym (ap (λ (l : List ℕ). fold step s l) (part-join piece i j k (x .span .order) (y .span .order)));
+  }
 
 module _ {S : Type 0} (step : S → ℕ → S) (end : ℕ → Bool) (piece : List ℕ) where
-  pub taken-none : (s : S) (i j : ℕ) → Upto end piece i j → i ≡ j → Taken step end piece s i s j
+  pub taken-none : (s : S) (i : ℕ) → Upto end piece i i → Taken step end piece s i s i
   unfolding fold
-  taken-none s i j u e = record { place = u; steps = rw (e, part-none piece j) }
+  taken-none s i u = record { place = u; steps = rw (part-none piece i) }
 
   -- a part, and then what is taken from its state
-  pub taken-then : (s m t : S) (i j k : ℕ) → Span (λ b. not (end b)) piece i j → m ≡ fold step s (part piece i j) → Taken step end piece m j t k
-      → Taken step end piece s i t k
-  taken-then s m t i j k x e y = record {
-    place = record { span = span-join (λ b. not (end b)) piece i j k x (y .place .span); here = y .place .here };
-    steps = y .steps ∙ rw (e, part-join piece i j k (x .order) (y .place .span .order), fold-join step s (part piece i j) (part piece j k));
-  }
+  pub taken-then : (s m t : S) (i j k : ℕ) → Passed step (λ b. not (end b)) piece s i m j → Taken step end piece m j t k → Taken step end piece s i t k
+  taken-then s m t i j k x y =
+      let z = passed-join step (λ b. not (end b)) piece s m t i j k x (record { span = y .place .span; steps = y .steps }) in
+      record { place = record { span = z .span; here = y .place .here }; steps = z .steps }
 
   pub taken-byte : (s m t : S) (i k : ℕ) → i < length piece → No (end (getD piece i 0)) → m ≡ step s (getD piece i 0) → Taken step end piece m (i + 1) t k
       → Taken step end piece s i t k
-  unfolding fold each
-  taken-byte s m t i k l h e y = taken-then s m t i (i + 1) k x (rw (part-one piece i l) e) y
+  taken-byte s m t i k l h e y = taken-then s m t i (i + 1) k (passed-more step q piece s s m i i (passed-none step q piece s i (omega arith)) l (deny (end (getD piece i 0)) h) e) y
     where
-      x : Span (λ b. not (end b)) piece i (i + 1)
-      x = span-more (λ b. not (end b)) piece i i (span-none (λ b. not (end b)) piece i (omega arith)) l (deny (end (getD piece i 0)) h)
+      q : ℕ → Bool
+      q b = not (end b)
 
   -- from another state, which the first byte takes to the same
   pub taken-as : (s s′ t : S) (i k : ℕ) → i < k → step s′ (getD piece i 0) ≡ step s (getD piece i 0) → Taken step end piece s i t k → Taken step end piece s′ i t k
@@ -189,31 +213,20 @@ stop-digit stop b h d = deny (eqb b stop || (eqb b space || eqb b newline)) (go 
     go false e false f true g = absurd (no newline (spaces .1) g)
     go false e false f false g = refl
 
-pub grown-none : (piece : List ℕ) (v i : ℕ) → i ≤ length piece → Grown piece v i v i
-unfolding fold
-grown-none piece v i h = record { span = span-none isDigit piece i h; steps = rw (part-none piece i) }
-
-pub grown-more : (piece : List ℕ) (v i v′ w j : ℕ) → Grown piece v i v′ j → j < length piece → So (isDigit (getD piece j 0)) → Value w ≡ grown v′ (getD piece j 0) → Grown piece v i w (j + 1)
-grown-more piece v i v′ w j x l d e = record {
-  span = span-more isDigit piece i j (x .span) l d;
-  steps =
-      e
-      ∙ ap (λ (n : Number). numberStep n (getD piece j 0)) (x .steps)
-      ∙ sym (fold-more numberStep (Value v) (part piece i j) (getD piece j 0))
-      ∙ sym (ap (λ (y : List ℕ). fold numberStep (Value v) y) (part-more piece i j (x .span .order) l));
-}
-
 module _ (piece : List ℕ) (stop : ℕ) (no : No (isDigit stop)) where
-  grows-clear : {v i v′ j : ℕ} → Grows piece v i v′ j → Span (λ b. not (ends stop b)) piece i j
-  grows-clear {i = i} {j = j} x = span-as isDigit piece (λ b. not (ends stop b)) (λ b d. stop-digit stop b no d) i j (x .so .span)
+  grows-clear : {v i v′ j : ℕ} → Grows piece v i v′ j → Passed numberStep (λ b. not (ends stop b)) piece (Value v) i (Value v′) j
+  grows-clear {i = i} {j = j} x = record {
+    span = span-as isDigit piece (λ b. not (ends stop b)) (λ b d. stop-digit stop b no d) i j (x .digits .span);
+    steps = x .digits .steps;
+  }
 
   -- digits up to the number's end, or up to a byte that makes it none, however many follow
   pub value-whole : (v i v′ j : ℕ) → Grows piece v i v′ j → Upto (ends stop) piece j j → Taken numberStep (ends stop) piece (Value v) i (Value v′) j
-  value-whole v i v′ j x u = record { place = record { span = grows-clear x; here = u .here }; steps = x .so .steps }
+  value-whole v i v′ j x u = let y = grows-clear x in record { place = record { span = y .span; here = u .here }; steps = y .steps }
 
   pub value-none : (v i v′ j k : ℕ) → Grows piece v i v′ j → Upto (ends stop) piece j k → j < k → Taken numberStep (ends stop) piece (Value v) i NoNumber k
   unfolding fold
-  value-none v i v′ j k x u h = taken-then numberStep (ends stop) piece (Value v) (Value v′) NoNumber i j k (grows-clear x) (x .so .steps) (record { place = u; steps = sym broken })
+  value-none v i v′ j k x u h = taken-then numberStep (ends stop) piece (Value v) (Value v′) NoNumber i j k (grows-clear x) (record { place = u; steps = sym broken })
     where
       l : j < length piece
       l = omega (arith, u .span .inside)
@@ -246,24 +259,22 @@ unfolding ends
 ends-field b h k = ⊎-elim (λ e. absurd (h (eqb-true b colon e))) (λ s. on-right (eqb b space) _ s) (either (eqb b colon) _ k)
 
 module _ (piece : List ℕ) where
-  pub output-taken : (n n′ : Number) (i k : ℕ) → (k < length piece → getD piece k 0 ≡ colon → ⊥) → Taken numberStep (ends colon) piece n i n′ k
-      → Taken fieldStep (ends space) piece (Output n) i (Output n′) k
-  output-taken n n′ i k h x = record {
-    place = record {
-      span = span-as (λ b. not (ends colon b)) piece (λ b. not (ends space b)) clear-colon i k (x .place .span);
-      here = λ l. ends-field (getD piece k 0) (h l) (x .place .here l);
-    };
+  output-passed : (n n′ : Number) (i k : ℕ) → Taken numberStep (ends colon) piece n i n′ k → Passed fieldStep (λ b. not (ends space b)) piece (Output n) i (Output n′) k
+  output-passed n n′ i k x = record {
+    span = span-as (λ b. not (ends colon b)) piece (λ b. not (ends space b)) clear-colon i k (x .place .span);
     steps = ap Output (x .steps) ∙ sym (output-steps n (part piece i k) (x .place .span .all));
   }
 
-  -- an output up to its colon, and what the field is from there
+  -- an output without a colon, and one up to its colon with what the field is from there
+  pub output-taken : (n n′ : Number) (i k : ℕ) → (k < length piece → getD piece k 0 ≡ colon → ⊥) → Taken numberStep (ends colon) piece n i n′ k
+      → Taken fieldStep (ends space) piece (Output n) i (Output n′) k
+  output-taken n n′ i k h x =
+      let y = output-passed n n′ i k x in
+      record { place = record { span = y .span; here = λ l. ends-field (getD piece k 0) (h l) (x .place .here l) }; steps = y .steps }
+
   pub output-then : (n n′ : Number) (f : Field) (i j k : ℕ) → Taken numberStep (ends colon) piece n i n′ j → Taken fieldStep (ends space) piece (Output n′) j f k
       → Taken fieldStep (ends space) piece (Output n) i f k
-  output-then n n′ f i j k x y =
-      taken-then fieldStep (ends space) piece (Output n) (Output n′) f i j k
-      (span-as (λ b. not (ends colon b)) piece (λ b. not (ends space b)) clear-colon i j (x .place .span))
-      (ap Output (x .steps) ∙ sym (output-steps n (part piece i j) (x .place .span .all)))
-      y
+  output-then n n′ f i j k x y = taken-then fieldStep (ends space) piece (Output n) (Output n′) f i j k (output-passed n n′ i j x) y
 
   pub colon-taken : (n : Number) (m f : Field) (i k : ℕ) → i < length piece → getD piece i 0 ≡ colon → m ≡ colonStep n → Taken fieldStep (ends space) piece m (i + 1) f k
       → Taken fieldStep (ends space) piece (Output n) i f k
@@ -309,40 +320,29 @@ ends-space b h k =
     (λ s. ⊎-elim (λ e. eqb-true b space e) (λ e. absurd (h (eqb-true b newline e))) (either (eqb b space) _ s))
     (either (eqb b space) _ k)
 
--- how far a line was read: up to no newline
-pub record Reached (piece : List ℕ) (s : Slot) (i : ℕ) (s′ : Slot) (j : ℕ) : Type 0 where
-  pub span : Span (λ b. not (endsLine b)) piece i j
-  pub steps : s′ ≡ fold slotStep s (part piece i j)
+-- how far a line was read
+abbrev pub Reached : List ℕ → Slot → ℕ → Slot → ℕ → Type 0
+Reached piece s i s′ j = Passed slotStep (λ b. not (endsLine b)) piece s i s′ j
 
 module _ (piece : List ℕ) (s : Slot) (i : ℕ) where
-  pub line-none : i ≤ length piece → Reached piece s i s i
-  unfolding fold
-  line-none h = record { span = span-none (λ b. not (endsLine b)) piece i h; steps = rw (part-none piece i) }
-
+  -- by what a piece has of a field, and by the space that ends it
   pub line-field : (r r′ : SlotReader) (ws : List ℕ) (j k : ℕ) → Reached piece s i (slotOf r ws) j → r′ .at ≡ r .at → Taken fieldStep (ends space) piece (r .field) j (r′ .field) k
       → Reached piece s i (slotOf r′ ws) k
-  line-field r r′ ws j k x e y = record {
-    span = span-join (λ b. not (endsLine b)) piece i j k (x .span) (span-as (λ b. not (ends space b)) piece (λ b. not (endsLine b)) clear-space j k (y .place .span));
+  line-field r r′ ws j k x e y = passed-join slotStep (λ b. not (endsLine b)) piece s (slotOf r ws) (slotOf r′ ws) i j k x (record {
+    span = span-as (λ b. not (ends space b)) piece (λ b. not (endsLine b)) clear-space j k (y .place .span);
     steps =
         ap (λ (n : ℕ). slot n (r′ .field) ws) e
         ∙ ap (λ (g : Field). slot (r .at) g ws) (y .steps)
-        ∙ sym (field-steps (r .at) (r .field) ws (part piece j k) (y .place .span .all))
-        ∙ ap (λ (m : Slot). fold slotStep m (part piece j k)) (x .steps)
-        ∙ sym (ap (λ (l : List ℕ). fold slotStep s l) (part-join piece i j k (x .span .order) (y .place .span .order)) ∙ fold-join slotStep s (part piece i j) (part piece j k));
-  }
+        ∙ sym (field-steps (r .at) (r .field) ws (part piece j k) (y .place .span .all));
+  })
 
   pub line-space : (m m′ : Slot) (j : ℕ) → Reached piece s i m j → j < length piece → So (ends space (getD piece j 0)) → (getD piece j 0 ≡ newline → ⊥) → m′ ≡ endField m
       → Reached piece s i m′ (j + 1)
   unfolding slotStep
-  line-space m m′ j x l h n e = record {
-    span = span-more (λ b. not (endsLine b)) piece i j (x .span) l (deny (eqb (getD piece j 0) newline) (ne-eqb (getD piece j 0) newline n));
-    steps =
-        e
-        ∙ sym (rw (ends-space (getD piece j 0) n h))
-        ∙ ap (λ (y : Slot). slotStep y (getD piece j 0)) (x .steps)
-        ∙ sym (fold-more slotStep s (part piece i j) (getD piece j 0))
-        ∙ sym (ap (λ (y : List ℕ). fold slotStep s y) (part-more piece i j (x .span .order) l));
-  }
+  line-space m m′ j x l h n e =
+      passed-more slotStep (λ b. not (endsLine b)) piece s m m′ i j x l
+      (deny (eqb (getD piece j 0) newline) (ne-eqb (getD piece j 0) newline n))
+      (e ∙ sym (rw (ends-space (getD piece j 0) n h)))
 
   pub line-taken : (s′ : Slot) (j : ℕ) → Reached piece s i s′ j → (j < length piece → getD piece j 0 ≡ newline) → Taken slotStep endsLine piece s i s′ j
   line-taken s′ j x h = record { place = record { span = x .span; here = λ l. eq-eqb (getD piece j 0) newline (h l) }; steps = x .steps }

@@ -1,7 +1,6 @@
 -- A byte behind a dash breaks the field.
 -- Assumes nothing.
 use native.Mathlib.Omega.{arith}
-use mathlib.Core.Path.{refl}
 use Rattle.text.specs.declared.Field.the-variants.{Dash}
 use Rattle.text.specs.Parts.{taken-none, dash-taken}
 use borrow.Author.Needs.{needs}
@@ -12,7 +11,7 @@ read-broken-requires : tie.Need-read-broken-requires
 read-broken-requires c κs = search needs
 
 returns : tie.Need-returns
-returns c = taken-none _ _ _ Dash _ _ (rw (c .if1 .taken) at (c .before .before .read-broken .ensures .place)) refl
+returns c = taken-none _ _ _ Dash _ (rw (c .if1 .taken) at (c .before .before .read-broken .ensures .place))
 
 returns-2 : tie.Need-returns-2
 returns-2 c = dash-taken _ _ _ _ (omega (arith, c .if1 .left, c .before .before .read-broken .ensures .place .span .order)) (c .before .before .read-broken .ensures)

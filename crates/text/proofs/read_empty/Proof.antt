@@ -1,7 +1,6 @@
 -- From a first digit on the steps are those of zero.
 -- Assumes nothing.
 use native.Mathlib.Omega.{arith}
-use mathlib.Core.Path.{refl}
 use Rattle.text.specs.declared.Number.the-variants.{Empty}
 use Rattle.text.specs.Parts.{taken-none, empty-taken}
 use borrow.Author.Needs.{needs}
@@ -12,7 +11,7 @@ read-value-requires : tie.Need-read-value-requires
 read-value-requires c κs = search needs
 
 returns : tie.Need-returns
-returns c = taken-none _ _ _ Empty _ _ (rw (c .if1 .taken) at (c .before .before .read-value .ensures .place)) refl
+returns c = taken-none _ _ _ Empty _ (rw (c .if1 .taken) at (c .before .before .read-value .ensures .place))
 
 returns-2 : tie.Need-returns-2
 returns-2 c = empty-taken _ _ (c .before .before .before .before .pre .1) _ _ _ (omega (arith, c .if1 .left, c .before .before .read-value .ensures .place .span .order)) (c .before .before .read-value .ensures)

@@ -1,6 +1,5 @@
 -- A dash, or an output from its first byte on.
 -- Assumes nothing.
-use mathlib.Core.Path.{refl}
 use mathlib.Core.Logic.{⊎-elim}
 use native.Mathlib.Omega.{arith}
 use borrow.Author.Tests.{eqb-true, eqb-false}
@@ -26,7 +25,7 @@ read-output-requires : tie.Need-read-output-requires
 read-output-requires c κs = search needs
 
 returns-2 : tie.Need-returns-2
-returns-2 c = taken-none _ _ _ Start _ _ (rw (c .if3 .taken) at (c .before .before .read-output .ensures .place)) refl
+returns-2 c = taken-none _ _ _ Start _ (rw (c .if3 .taken) at (c .before .before .read-output .ensures .place))
 
 returns-3 : tie.Need-returns-3
 returns-3 c = let x = c .before .before .read-output .ensures in start-output _ _ _ _ (omega (arith, c .if3 .left, x .place .span .order)) (λ e. ⊎-elim (λ w. eqb-false _ 45 (w .2 .left) e) (λ w. omega (arith, w .left, c .if3 .left, x .place .span .order, x .place .span .inside)) (c .before .before .before .if1 .came)) x

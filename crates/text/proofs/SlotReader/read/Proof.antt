@@ -5,7 +5,7 @@ use mathlib.Core.Path.{_≡_, refl, _∙_}
 use native.Mathlib.Omega.{arith}
 use lib.ListN.{length}
 use Rattle.text.specs.Steps.{slotOf}
-use Rattle.text.specs.Parts.{Reached, line-none, line-field, line-space, line-taken}
+use Rattle.text.specs.Parts.{Reached, passed-none, line-field, line-space, line-taken}
 use Rattle.text.proofs.SlotReader.read.Statement.{statement}
 use Rattle.text.proofs.SlotReader.read.Tie as tie
 
@@ -16,7 +16,7 @@ abbrev μ-loop : tie.MeasureT-loop
 μ-loop piece from words₀ reader₀ next₀ words reader next = length piece - next
 
 loop-holds : tie.Need-loop-holds Inv-loop μ-loop
-loop-holds c = (refl, line-none _ _ _ (c .before .before .pre))
+loop-holds c = (refl, passed-none _ _ _ _ _ (c .before .before .pre))
 
 rest-requires : tie.Need-rest-requires Inv-loop μ-loop
 rest-requires c κs = c .loop .inv .1 .span .inside
