@@ -65,11 +65,11 @@ pub record Grows (piece : List ℕ) (v from v′ next : ℕ) : Type 0 where
 
 -- parts ---------------------------------------------------------------------------------------
 
-pub part-none : (piece : List ℕ) (i : ℕ) → part piece i i ≡ []
+part-none : (piece : List ℕ) (i : ℕ) → part piece i i ≡ []
 unfolding part
 part-none piece i = ap (λ (n : ℕ). take n (drop i piece)) {x = i - i} {y = 0} (omega arith)
 
-pub part-join : (piece : List ℕ) (i j k : ℕ) → i ≤ j → j ≤ k → part piece i k ≡ part piece i j ++ part piece j k
+part-join : (piece : List ℕ) (i j k : ℕ) → i ≤ j → j ≤ k → part piece i k ≡ part piece i j ++ part piece j k
 unfolding part
 part-join piece i j k h l =
     ap (λ (n : ℕ). take n (drop i piece)) {x = k - i} {y = (j - i) + (k - j)} (omega arith)
@@ -80,10 +80,10 @@ part-one : (piece : List ℕ) (i : ℕ) → i < length piece → part piece i (i
 unfolding part
 part-one piece i h = ap (λ (n : ℕ). take n (drop i piece)) {x = i + 1 - i} {y = 1} (omega arith) ∙ ap (λ (m : List ℕ). take 1 m) (drop-cons piece i 0 h)
 
-pub part-more : (piece : List ℕ) (i j : ℕ) → i ≤ j → j < length piece → part piece i (j + 1) ≡ part piece i j ++ (getD piece j 0 ∷ [])
+part-more : (piece : List ℕ) (i j : ℕ) → i ≤ j → j < length piece → part piece i (j + 1) ≡ part piece i j ++ (getD piece j 0 ∷ [])
 part-more piece i j h l = part-join piece i j (j + 1) h (omega arith) ∙ ap (λ (m : List ℕ). part piece i j ++ m) (part-one piece j l)
 
-pub part-first : (piece : List ℕ) (i j : ℕ) → i < j → i < length piece → part piece i j ≡ getD piece i 0 ∷ part piece (i + 1) j
+part-first : (piece : List ℕ) (i j : ℕ) → i < j → i < length piece → part piece i j ≡ getD piece i 0 ∷ part piece (i + 1) j
 part-first piece i j h l = part-join piece i (i + 1) j (omega arith) (omega arith) ∙ ap (λ (m : List ℕ). m ++ part piece (i + 1) j) (part-one piece i l)
 
 pub part-rest : (piece : List ℕ) (i j : ℕ) → i ≤ j → drop i piece ≡ part piece i j ++ drop j piece
@@ -94,7 +94,7 @@ part-rest piece i j h =
 
 -- steps and tests over lists that are joined
 module _ {S A : Type 0} where
-  pub fold-join : (f : S → A → S) (s : S) (l m : List A) → fold f s (l ++ m) ≡ fold f (fold f s l) m
+  fold-join : (f : S → A → S) (s : S) (l m : List A) → fold f s (l ++ m) ≡ fold f (fold f s l) m
   unfolding fold
   fold-join f s [] m = refl
   fold-join f s (a ∷ l) m = fold-join f (f s a) l m
@@ -124,14 +124,14 @@ module _ (p : ℕ → Bool) (piece : List ℕ) where
     all = rw (part-more piece i j (x .order) l) (each-more p (part piece i j) (getD piece j 0) (x .all) h);
   }
 
-  pub span-join : (i j k : ℕ) → Span p piece i j → Span p piece j k → Span p piece i k
+  span-join : (i j k : ℕ) → Span p piece i j → Span p piece j k → Span p piece i k
   span-join i j k x y = record {
     order = omega (arith, x .order, y .order);
     inside = y .inside;
     all = rw (part-join piece i j k (x .order) (y .order)) (each-join p (part piece i j) (part piece j k) (x .all) (y .all));
   }
 
-  pub span-as : (q : ℕ → Bool) → ((b : ℕ) → So (p b) → So (q b)) → (i j : ℕ) → Span p piece i j → Span q piece i j
+  span-as : (q : ℕ → Bool) → ((b : ℕ) → So (p b) → So (q b)) → (i j : ℕ) → Span p piece i j → Span q piece i j
   span-as q f i j x = record { order = x .order; inside = x .inside; all = each-as p q f (part piece i j) (x .all) }
 
 -- what is passed and what is taken ---------------------------------------------------------------
@@ -152,7 +152,7 @@ module _ {S : Type 0} (step : S → ℕ → S) (p : ℕ → Bool) (piece : List 
         ∙ sym (ap (λ (y : List ℕ). fold step s y) (part-more piece i j (x .span .order) l));
   }
 
-  pub passed-join : (s m t : S) (i j k : ℕ) → Passed step p piece s i m j → Passed step p piece m j t k → Passed step p piece s i t k
+  passed-join : (s m t : S) (i j k : ℕ) → Passed step p piece s i m j → Passed step p piece m j t k → Passed step p piece s i t k
   passed-join s m t i j k x y = record {
     span = span-join p piece i j k (x .span) (y .span);
     steps =
@@ -168,12 +168,12 @@ module _ {S : Type 0} (step : S → ℕ → S) (end : ℕ → Bool) (piece : Lis
   taken-none s i u = record { place = u; steps = rw (part-none piece i) }
 
   -- a part, and then what is taken from its state
-  pub taken-then : (s m t : S) (i j k : ℕ) → Passed step (λ b. not (end b)) piece s i m j → Taken step end piece m j t k → Taken step end piece s i t k
+  taken-then : (s m t : S) (i j k : ℕ) → Passed step (λ b. not (end b)) piece s i m j → Taken step end piece m j t k → Taken step end piece s i t k
   taken-then s m t i j k x y =
       let z = passed-join step (λ b. not (end b)) piece s m t i j k x (record { span = y .place .span; steps = y .steps }) in
       record { place = record { span = z .span; here = y .place .here }; steps = z .steps }
 
-  pub taken-byte : (s m t : S) (i k : ℕ) → i < length piece → No (end (getD piece i 0)) → m ≡ step s (getD piece i 0) → Taken step end piece m (i + 1) t k
+  taken-byte : (s m t : S) (i k : ℕ) → i < length piece → No (end (getD piece i 0)) → m ≡ step s (getD piece i 0) → Taken step end piece m (i + 1) t k
       → Taken step end piece s i t k
   taken-byte s m t i k l h e y = taken-then s m t i (i + 1) k (passed-more step q piece s s m i i (passed-none step q piece s i (omega arith)) l (deny (end (getD piece i 0)) h) e) y
     where
@@ -181,7 +181,7 @@ module _ {S : Type 0} (step : S → ℕ → S) (end : ℕ → Bool) (piece : Lis
       q b = not (end b)
 
   -- from another state, which the first byte takes to the same
-  pub taken-as : (s s′ t : S) (i k : ℕ) → i < k → step s′ (getD piece i 0) ≡ step s (getD piece i 0) → Taken step end piece s i t k → Taken step end piece s′ i t k
+  taken-as : (s s′ t : S) (i k : ℕ) → i < k → step s′ (getD piece i 0) ≡ step s (getD piece i 0) → Taken step end piece s i t k → Taken step end piece s′ i t k
   unfolding fold
   taken-as s s′ t i k h e x = record {
     place = x .place;
@@ -197,6 +197,7 @@ no-digits : (isDigit space ≡ false) × (isDigit newline ≡ false)
 unfolding isDigit
 no-digits = (refl, refl)
 
+-- a digit ends nothing
 stop-digit : (stop b : ℕ) → No (isDigit stop) → So (isDigit b) → So (not (ends stop b))
 unfolding ends
 stop-digit stop b h d = deny (eqb b stop || (eqb b space || eqb b newline)) (go (eqb b stop) refl (eqb b space) refl (eqb b newline) refl)
@@ -204,13 +205,10 @@ stop-digit stop b h d = deny (eqb b stop || (eqb b space || eqb b newline)) (go 
     no : (c : ℕ) → No (isDigit c) → eqb b c ≡ true → ⊥
     no c k e = refuted d (ap isDigit (eqb-true b c e) ∙ k)
 
-    spaces : (isDigit space ≡ false) × (isDigit newline ≡ false)
-    spaces = no-digits
-
     go : (x : Bool) → eqb b stop ≡ x → (y : Bool) → eqb b space ≡ y → (z : Bool) → eqb b newline ≡ z → No (x || (y || z))
     go true e y f z g = absurd (no stop h e)
-    go false e true f z g = absurd (no space (spaces .0) f)
-    go false e false f true g = absurd (no newline (spaces .1) g)
+    go false e true f z g = absurd (no space (no-digits .0) f)
+    go false e false f true g = absurd (no newline (no-digits .1) g)
     go false e false f false g = refl
 
 module _ (piece : List ℕ) (stop : ℕ) (no : No (isDigit stop)) where
@@ -243,12 +241,13 @@ module _ (piece : List ℕ) (stop : ℕ) (no : No (isDigit stop)) where
 
 -- a field ---------------------------------------------------------------------------------------
 
--- a number's part in a field
+-- an output's number in a field
 output-steps : (n : Number) (f : List ℕ) → So (each (λ b. not (ends colon b)) f) → fold fieldStep (Output n) f ≡ Output (fold numberStep n f)
 unfolding fold each fieldStep outputStep ends
 output-steps n [] h = refl
 output-steps n (b ∷ f) h = let x = both (not (ends colon b)) _ h in rw (neither (eqb b colon) _ (denied (ends colon b) (x .0)) .0) (output-steps (numberStep n b) f (x .1))
 
+-- what ends no number ends no field
 clear-colon : (b : ℕ) → So (not (ends colon b)) → So (not (ends space b))
 unfolding ends
 clear-colon b h = let x = neither (eqb b space) (eqb b newline) (neither (eqb b colon) _ (denied (ends colon b) h) .1) in deny (ends space b) (rw (x .0, x .1))
@@ -303,11 +302,13 @@ module _ (piece : List ℕ) where
 
 -- a slot line -----------------------------------------------------------------------------------
 
+-- a field's part in a line
 field-steps : (at : ℕ) (f : Field) (ws l : List ℕ) → So (each (λ b. not (ends space b)) l) → fold slotStep (slot at f ws) l ≡ slot at (fold fieldStep f l) ws
 unfolding fold each slotStep ends
 field-steps at f ws [] h = refl
 field-steps at f ws (b ∷ l) h = let x = both (not (ends space b)) _ h in rw (neither (eqb b space) _ (denied (ends space b) (x .0)) .0) (field-steps at (fieldStep f b) ws l (x .1))
 
+-- what ends no field ends no line
 clear-space : (b : ℕ) → So (not (ends space b)) → So (not (endsLine b))
 unfolding ends
 clear-space b h = deny (eqb b newline) (neither (eqb b space) _ (neither (eqb b space) _ (denied (ends space b) h) .1) .1)
