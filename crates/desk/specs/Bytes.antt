@@ -1,13 +1,13 @@
--- A byte that ends no line and one that does, and a line's beginning: what is to come from there is what the whole line says.
+-- Bytes that end no line and one that does, and a line's beginning: what is to come from there is what the whole line says.
 -- Assumes nothing.
 use Prim.Native.Nat.{ℕ, _*_}
-use mathlib.Core.Path.{_≡_, refl, sym, ap}
-use mathlib.Core.Bool.{Bool, true, false, cond}
+use mathlib.Core.Path.{_≡_, refl, sym, ap, _∙_}
+use mathlib.Core.Bool.{Bool, So, true, false, cond, not}
 use mathlib.Core.List.{List, [], _∷_, _++_}
 use lib.Dec.{eqb}
 use lib.ListN.{length}
-use Rattle.laws.specs.Tests.{No}
-use Rattle.laws.specs.Folds.{fold}
+use Rattle.laws.specs.Tests.{No, both, denied}
+use Rattle.laws.specs.Folds.{fold, each}
 use Rattle.rules.specs.Calls.{State}
 use Rattle.text.specs.declared.FirstLine.{FirstLine}
 use Rattle.text.specs.declared.FirstReader.{FirstReader}
@@ -37,7 +37,7 @@ opening-end r b input line e q = rw (e, ← q) (go (cut newline input) (cut-some
     go [] i = absurd (i refl)
     go (q ∷ qs) i = refl
 
-pub line-byte : (x : State) (s : Slot) (b : ℕ) (input : List ℕ) → No (eqb b newline) → lineFrom x s (linesOf (b ∷ input)) ≡ lineFrom x (slotStep s b) (linesOf input)
+line-byte : (x : State) (s : Slot) (b : ℕ) (input : List ℕ) → No (eqb b newline) → lineFrom x s (linesOf (b ∷ input)) ≡ lineFrom x (slotStep s b) (linesOf input)
 unfolding linesOf cut lineFrom fold
 line-byte x s b input h = rw h (go (cut newline input) (cut-some newline input))
   where
@@ -46,9 +46,15 @@ line-byte x s b input h = rw h (go (cut newline input) (cut-some newline input))
     go (p ∷ []) i = refl
     go (p ∷ (q ∷ qs)) i = refl
 
-pub line-end : (x : State) (s : Slot) (b : ℕ) (input : List ℕ) → b ≡ newline → lineFrom x s (linesOf (b ∷ input)) ≡ lineEnd x (endField s) (linesOf input)
+-- many bytes that end no line
+pub line-bytes : (x : State) (s : Slot) (l input : List ℕ) → So (each (λ b. not (eqb b newline)) l) → lineFrom x s (linesOf (l ++ input)) ≡ lineFrom x (fold slotStep s l) (linesOf input)
+unfolding fold each
+line-bytes x s [] input h = refl
+line-bytes x s (b ∷ l) input h = let y = both (not (eqb b newline)) _ h in line-byte x s b (l ++ input) (denied (eqb b newline) (y .0)) ∙ line-bytes x (slotStep s b) l input (y .1)
+
+pub line-end : (x : State) (s : Slot) (input : List ℕ) → lineFrom x s (linesOf (newline ∷ input)) ≡ lineEnd x (endField s) (linesOf input)
 unfolding linesOf cut lineFrom fold
-line-end x s b input e = rw e (go (cut newline input) (cut-some newline input))
+line-end x s input = go (cut newline input) (cut-some newline input)
   where
     go : (ps : List (List ℕ)) → (ps ≡ [] → ⊥) → lineFrom x s ([] ∷ ps) ≡ lineEnd x (endField s) ps
     go [] i = absurd (i refl)

@@ -1,14 +1,14 @@
 -- Slot lines, and the turns that the program's functions take: a text put into the buffer, and the stand that prints the rest.
 -- Assumes nothing.
-use Prim.Native.Nat.{ℕ, _+_, _*_, _≤_}
+use Prim.Native.Nat.{ℕ, _+_, _*_, _≤_, _<_}
 use mathlib.Core.Path.{_≡_, refl, sym, ap, subst, _∙_}
 use mathlib.Core.Bool.{Bool, So, true, false, cond}
 use mathlib.Core.List.{List, [], _∷_, _++_, append-assoc, append-nil}
 use native.Mathlib.Omega.{arith}
+use native.Mathlib.Numerals.{add-one}
 use native.Mathlib.Nat.{mul-le-mul}
-use lib.Dec.{eqb}
-use lib.ListN.{length, take, replicate}
-use lib.Seq.{take-at}
+use lib.ListN.{length, getD, take, drop, replicate}
+use lib.Seq.{length-take-le, take-at, drop-cons}
 use Rattle.laws.specs.Tests.{No, cond-true, cond-false}
 use Rattle.rules.specs.declared.Switch.{Switch}
 use Rattle.laws.specs.Count.{count-le}
@@ -18,7 +18,8 @@ use Rattle.rules.specs.Answers.{numberOf, isDone, live, slotAnswer}
 use Rattle.rules.specs.Calls.{State, Outcome, slot, slotRuns, slotRefused}
 use Rattle.ideal.specs.Words.{length-cellsOf}
 use Rattle.text.specs.declared.SlotReader.{SlotReader}
-use Rattle.text.specs.Steps.{Slot, slotOf, endField, slotStep, isWhole}
+use Rattle.text.specs.Steps.{Slot, slotOf, readerStart, endField, slotStep, isWhole}
+use Rattle.text.specs.Parts.{part, endsLine, Taken, part-rest}
 use Rattle.text.specs.Printed.{refusedLine}
 use Rattle.text.specs.Prints.{Put, put-none, put-then}
 use Rattle.desk.specs.declared.Running.{Running}
@@ -26,7 +27,7 @@ use Rattle.desk.specs.declared.Desk.{Desk}
 use Rattle.desk.specs.declared.Desk.the-variants.{Between, Within, Over}
 use Rattle.desk.specs.Program.{newline, linesOf, endText, cellText, slotText, slotOn, lineText, lineAfter, slotsText}
 use Rattle.desk.specs.Coming.{stateOf, lineWords, lineEnd, lineFrom, Stand, stand, comingBy, coming, Sizes, Inside, Turns, Goes}
-use Rattle.desk.specs.Bytes.{line-byte, line-end}
+use Rattle.desk.specs.Bytes.{line-bytes, line-end, between}
 
 -- the slots --------------------------------------------------------------------------------------
 
@@ -135,35 +136,26 @@ turns-line x table words rest arrivals out out′ text at at′ o is z l h p w =
     y : Running
     y = record { crossbar = record { numbers = o .numbers }; words = x .words }
 
--- a byte of a slot line, its end where it was not read, and its end where it was
-module _ (x : Running) (r : SlotReader) (b : ℕ) (table arrivals out : List ℕ) (at : ℕ) where
+-- a slot line's end, where it was not read and where it was
+module _ (x : Running) (r : SlotReader) (table arrivals out : List ℕ) (at : ℕ) where
   abbrev partly : Slot
   partly = slotOf r (take (lineWords x) arrivals)
 
   abbrev onward : List ℕ → List ℕ
-  onward rest = lineFrom (stateOf x table) partly (linesOf (b ∷ rest))
+  onward rest = lineFrom (stateOf x table) partly (linesOf (newline ∷ rest))
 
-  pub turns-byte : (r′ : SlotReader) (front back : List ℕ) → No (eqb b newline) → Sizes x → length front ≡ lineWords x → slotOf r′ front ≡ slotStep partly b
-      → Turns onward out at (stand (Within x r′) table (front ++ back)) out at
-  unfolding comingBy
-  turns-byte r′ front back h z l e =
-      turns-silent onward out at (stand (Within x r′) table (front ++ back)) z
-      (λ rest.
-      line-byte (stateOf x table) partly b rest h
-      ∙ ap (λ (s : Slot). lineFrom (stateOf x table) s (linesOf rest)) (sym e ∙ ap (slotOf r′) (sym (take-at front back (lineWords x) l))))
-
-  pub turns-unread : (out′ table′ arrivals′ : List ℕ) (at′ : ℕ) → b ≡ newline → No (isWhole (endField partly)) → Put out at (endText (stateOf x table)) out′ at′ → at′ ≤ at + 1024
+  pub turns-unread : (out′ table′ arrivals′ : List ℕ) (at′ : ℕ) → No (isWhole (endField partly)) → Put out at (endText (stateOf x table)) out′ at′ → at′ ≤ at + 1024
       → Turns onward out at (stand Over table′ arrivals′) out′ at′
   unfolding lineEnd
-  turns-unread out′ table′ arrivals′ at′ e h p w =
+  turns-unread out′ table′ arrivals′ at′ h p w =
       turns-over onward out out′ (endText (stateOf x table)) table′ arrivals′ at at′ p w
-      (λ rest. line-end (stateOf x table) partly b rest e ∙ cond-false (isWhole (endField partly)) _ _ h)
+      (λ rest. line-end (stateOf x table) partly rest ∙ cond-false (isWhole (endField partly)) _ _ h)
 
-  pub turns-read : (words out′ : List ℕ) (at′ : ℕ) (s : Stand) → b ≡ newline → So (isWhole (endField partly)) → words ≡ endField partly .words
+  pub turns-read : (words out′ : List ℕ) (at′ : ℕ) (s : Stand) → So (isWhole (endField partly)) → words ≡ endField partly .words
       → Turns (λ rest. lineText (stateOf x table) words ++ slotsText (lineAfter (stateOf x table) words) (linesOf rest)) out at s out′ at′ → Turns onward out at s out′ at′
   unfolding lineEnd
-  turns-read words out′ at′ s e h q t =
-      turns-as t (λ rest. line-end (stateOf x table) partly b rest e ∙ cond-true (isWhole (endField partly)) _ _ h ∙ ap (goesOn rest) (sym q))
+  turns-read words out′ at′ s h q t =
+      turns-as t (λ rest. line-end (stateOf x table) partly rest ∙ cond-true (isWhole (endField partly)) _ _ h ∙ ap (goesOn rest) (sym q))
     where
       goesOn : List ℕ → List ℕ → List ℕ
       goesOn rest ws = lineText (stateOf x table) ws ++ slotsText (lineAfter (stateOf x table) ws) (linesOf rest)
@@ -174,11 +166,67 @@ pub goes-none : (s : Stand) (unread out : List ℕ) (at : ℕ) → Inside (s .de
 goes-none s unread out at i = record { text = []; put = put-none out at; comes = λ rest. refl; inside = i }
 
 -- one byte more of what is unread
-pub goes-byte : {s a c : Stand} {unread out mid new : List ℕ} {at p q : ℕ} (b : ℕ) (rest : List ℕ)
-    → Goes s unread out at a (b ∷ rest) mid p → Turns (λ more. coming a (b ∷ more)) mid p c new q → Goes s unread out at c rest new q
-goes-byte {c = c} b rest x y = record {
+pub goes-byte : {s a c : Stand} {unread left out mid new : List ℕ} {at p q : ℕ} (b : ℕ) (rest : List ℕ) → left ≡ b ∷ rest
+    → Goes s unread out at a left mid p → Turns (λ more. coming a (b ∷ more)) mid p c new q → Goes s unread out at c rest new q
+goes-byte {a = a} {c = c} b rest e x y = record {
   text = x .text ++ y .text;
   put = put-then (x .put) (y .put);
-  comes = λ more. x .comes more ∙ ap (λ (l : List ℕ). x .text ++ l) (y .comes (rest ++ more)) ∙ sym (append-assoc (x .text) (y .text) (coming c (rest ++ more)));
+  comes = λ more.
+      x .comes more
+      ∙ ap (λ (l : List ℕ). x .text ++ coming a (l ++ more)) e
+      ∙ ap (λ (l : List ℕ). x .text ++ l) (y .comes (rest ++ more))
+      ∙ sym (append-assoc (x .text) (y .text) (coming c (rest ++ more)));
   inside = y .inside;
 }
+
+pub drop-next : (piece : List ℕ) (n b : ℕ) → n < length piece → getD piece n 0 ≡ b → drop n piece ≡ b ∷ drop (n + 1) piece
+drop-next piece n b h e = rw (add-one n, ← e) (drop-cons piece n 0 h)
+
+-- two ways, one behind the other
+pub goes-then : {s a c : Stand} {unread left rest out mid new : List ℕ} {at p q : ℕ} → Goes s unread out at a left mid p → Goes a left mid p c rest new q → Goes s unread out at c rest new q
+goes-then {c = c} {rest = rest} x y = record {
+  text = x .text ++ y .text;
+  put = put-then (x .put) (y .put);
+  comes = λ more. x .comes more ∙ ap (λ (l : List ℕ). x .text ++ l) (y .comes more) ∙ sym (append-assoc (x .text) (y .text) (coming c (rest ++ more)));
+  inside = y .inside;
+}
+
+-- the end of the reading takes any input
+pub goes-over : (table arrivals unread unread′ out : List ℕ) (at : ℕ) → Goes (stand Over table arrivals) unread out at (stand Over table arrivals) unread′ out at
+unfolding comingBy
+goes-over table arrivals unread unread′ out at = record { text = []; put = put-none out at; comes = λ rest. refl; inside = tt }
+
+module _ (x : Running) (table arrivals : List ℕ) (z : Sizes x) where
+  -- a slot line as far as a piece has it; the lent front of its words came back
+  pub goes-line : (r r′ : SlotReader) (front back piece out : List ℕ) (from next at : ℕ) → length front ≡ lineWords x
+      → Taken slotStep endsLine piece (slotOf r (take (lineWords x) arrivals)) from (slotOf r′ front) next
+      → Goes (stand (Within x r) table arrivals) (drop from piece) out at (stand (Within x r′) table (front ++ back)) (drop next piece) out at
+  unfolding comingBy
+  goes-line r r′ front back piece out from next at l t = record {
+    text = [];
+    put = put-none out at;
+    comes = λ rest.
+        ap (λ (m : List ℕ). lineFrom (stateOf x table) s (linesOf (m ++ rest))) (part-rest piece from next (t .place .span .order))
+        ∙ ap (λ (m : List ℕ). lineFrom (stateOf x table) s (linesOf m)) (append-assoc (part piece from next) (drop next piece) rest)
+        ∙ line-bytes (stateOf x table) s (part piece from next) (drop next piece ++ rest) (t .place .span .all)
+        ∙ ap (λ (y : Slot). lineFrom (stateOf x table) y (linesOf (drop next piece ++ rest))) (sym (t .steps) ∙ ap (slotOf r′) (sym (take-at front back (lineWords x) l)));
+    inside = z;
+  }
+    where
+      s : Slot
+      s = slotOf r (take (lineWords x) arrivals)
+
+  -- a line begins with its first byte
+  pub goes-begins : (b : ℕ) (s : Stand) (rest unread left out out′ : List ℕ) (at at′ : ℕ) → length arrivals ≡ 32 → unread ≡ b ∷ rest
+      → Goes (stand (Within x readerStart) table arrivals) unread out at s left out′ at′ → Goes (stand (Between x) table arrivals) unread out at s left out′ at′
+  unfolding comingBy
+  goes-begins b s rest unread left out out′ at at′ l e g = record {
+    text = g .text;
+    put = g .put;
+    comes = λ more.
+        ap (λ (m : List ℕ). slotsText (stateOf x table) (linesOf (m ++ more))) e
+        ∙ between (stateOf x table) (take (lineWords x) arrivals) b (rest ++ more) (length-take-le (lineWords x) arrivals (omega (arith, z .ports)))
+        ∙ sym (ap (λ (m : List ℕ). lineFrom (stateOf x table) (slotOf readerStart (take (lineWords x) arrivals)) (linesOf (m ++ more))) e)
+        ∙ g .comes more;
+    inside = g .inside;
+  }

@@ -1,5 +1,5 @@
-// The program of document 01 without its reading and writing: a state by value that takes one byte at a time, and puts what is to be printed
-// into a lent buffer. Every number printed, refusals too, is an answer of the switch's two public calls.
+// The program of document 01 without its reading and writing: a state by value that takes the pieces that the input comes in, and puts what
+// is to be printed into a lent buffer. Every number printed, refusals too, is an answer of the switch's two public calls.
 use rules::Slot;
 use rules::Switch;
 use switch::Crossbar;
@@ -14,9 +14,9 @@ ghost use lib.ListN.{length, take, drop, replicate};
 ghost use Rattle.text.specs.declared.FirstLine.the-variants.{Numbers};
 ghost use Rattle.text.specs.Prints.{Put};
 ghost use Rattle.text.specs.Steps.{firstStart, slotOf};
-ghost use Rattle.desk.specs.declared.Desk.the-variants.{First};
-ghost use Rattle.desk.specs.Program.{linesOf, cellText, slotText, heldText, endText, lineText, lineAfter, slotsText, firstText};
-ghost use Rattle.desk.specs.Coming.{lentWords, stateOf, lineWords, openingFrom, lineFrom, stand, coming, closing, isOver, Sizes, Inside, Turns, Goes};
+ghost use Rattle.desk.specs.declared.Desk.the-variants.{First, Within};
+ghost use Rattle.desk.specs.Program.{newline, linesOf, cellText, slotText, heldText, endText, lineText, lineAfter, slotsText, firstText};
+ghost use Rattle.desk.specs.Coming.{lentWords, stateOf, lineWords, openingFrom, lineFrom, stand, closing, isOver, Sizes, Inside, Turns, Goes};
 
 // One record more than the largest table: a longer one that is asked for is refused by the switch itself.
 const MOST_LENT: u32 = 1_025;
@@ -26,7 +26,7 @@ pub const TABLE_WORDS: usize = 5_125;
 
 pub const ARRIVAL_WORDS: usize = 32;
 
-// What one byte's output may take: sixteen lines of cells, of at most sixty bytes.
+// What one line's end may print: sixteen lines of cells, of at most sixty bytes.
 const ROOM: usize = 1_024;
 
 // A switch after its accepted fresh start, and how many words of the table are its own.
@@ -49,7 +49,7 @@ pub struct Turn {
     pub at: usize,
 }
 
-// The same after a piece of the input, and how many of its bytes were taken.
+// The same, and how many bytes of a piece of the input were taken.
 pub struct Pass {
     pub desk: Desk,
     pub at: usize,
@@ -70,7 +70,7 @@ impl Desk {
         if let Desk::Over = self { true } else { false }
     }
 
-    // Takes the bytes of a piece from `from` on, as long as there is room for what the next one may print.
+    // Takes the bytes of a piece from `from` on, as long as there is room for what the next line's end may print.
     pub fn pass(
         self,
         piece: &[u8],
@@ -92,10 +92,10 @@ impl Desk {
         let mut at = 0;
         let mut next = from;
         while next < piece.len() && at <= most {
-            let turn = desk.step(piece[next], table, arrivals, out, at);
-            desk = turn.desk;
-            at = turn.at;
-            next += 1;
+            let pass = desk.advance(piece, next, table, arrivals, out, at);
+            desk = pass.desk;
+            at = pass.at;
+            next = pass.next;
         }
         Pass {
             desk: desk,
@@ -104,29 +104,43 @@ impl Desk {
         }
     }
 
-    // One byte of the input.
-    pub fn step(
+    // A byte of the first line, or all that a piece has of a slot line.
+    fn advance(
         self,
-        byte: u8,
+        piece: &[u8],
+        from: usize,
         table: &mut [u32],
         arrivals: &mut [u32],
         out: &mut [u8],
         at: usize,
-    ) -> Turn
+    ) -> Pass
         requires inside { ⌜ Inside self ⌝ }
+        requires unread { ⌜ from < length (now piece) ⌝ }
         requires lent { ⌜ (length (now table) ≡ 5125) × (length (now arrivals) ≡ 32) ⌝ }
         requires room { ⌜ at + 1024 ≤ length (now out) ⌝ }
-        ensures { λ r. ⌜ Turns (λ rest. coming (stand self (now (table .entry)) (now (arrivals .entry))) (byte ∷ rest)) (now (out .entry)) at (stand (r .desk) (now (table .exit)) (now (arrivals .exit))) (now (out .exit)) (r .at) ⌝ }
+        ensures { λ r. ⌜ Goes (stand self (now (table .entry)) (now (arrivals .entry))) (drop from (now (piece .entry))) (now (out .entry)) at (stand (r .desk) (now (table .exit)) (now (arrivals .exit))) (drop (r .next) (now (piece .entry))) (now (out .exit)) (r .at) ⌝ }
+        ensures within { λ r. ⌜ (from < r .next) × (r .next ≤ length (now (piece .entry))) × (r .at ≤ at + 1024) ⌝ }
     {
         match self {
-            Desk::First(reader) => first_step(reader, byte, table, out, at),
-            Desk::Between(running) => {
-                running.step(SlotReader::start(), byte, table, arrivals, out, at)
+            Desk::First(reader) => {
+                let turn = first_step(reader, piece[from], table, out, at);
+                let desk = turn.desk;
+                Pass {
+                    desk: desk,
+                    at: turn.at,
+                    next: from + 1,
+                }
             }
-            Desk::Within(running, reader) => running.step(reader, byte, table, arrivals, out, at),
-            Desk::Over => Turn {
+            Desk::Between(running) => {
+                running.advance(SlotReader::start(), piece, from, table, arrivals, out, at)
+            }
+            Desk::Within(running, reader) => {
+                running.advance(reader, piece, from, table, arrivals, out, at)
+            }
+            Desk::Over => Pass {
                 desk: Desk::Over,
                 at: at,
+                next: piece.len(),
             },
         }
     }
@@ -220,11 +234,49 @@ fn lent_words(records: u32) -> usize
 }
 
 impl Running {
-    // A byte of a slot line, or its end.
-    fn step(
+    // What a piece has of a slot line, with the line's end if that is there.
+    fn advance(
         self,
         reader: SlotReader,
-        byte: u8,
+        piece: &[u8],
+        from: usize,
+        table: &mut [u32],
+        arrivals: &mut [u32],
+        out: &mut [u8],
+        at: usize,
+    ) -> Pass
+        requires sizes { ⌜ Sizes self ⌝ }
+        requires unread { ⌜ from < length (now piece) ⌝ }
+        requires lent { ⌜ (length (now table) ≡ 5125) × (length (now arrivals) ≡ 32) ⌝ }
+        requires room { ⌜ at + 1024 ≤ length (now out) ⌝ }
+        ensures { λ r. ⌜ Goes (stand (Within self reader) (now (table .entry)) (now (arrivals .entry))) (drop from (now (piece .entry))) (now (out .entry)) at (stand (r .desk) (now (table .exit)) (now (arrivals .exit))) (drop (r .next) (now (piece .entry))) (now (out .exit)) (r .at) ⌝ }
+        ensures within { λ r. ⌜ (from < r .next) × (r .next ≤ length (now (piece .entry))) × (r .at ≤ at + 1024) ⌝ }
+    {
+        let crossbar = self.crossbar;
+        let width = (crossbar.numbers.ports as usize) * 2;
+        let part = reader.read(piece, from, &mut arrivals[..width]);
+        let read = part.reader;
+        let next = part.next;
+        if next == piece.len() {
+            return Pass {
+                desk: Desk::Within(self, read),
+                at: at,
+                next: next,
+            };
+        }
+        let turn = self.end_line(read, table, arrivals, out, at);
+        let desk = turn.desk;
+        Pass {
+            desk: desk,
+            at: turn.at,
+            next: next + 1,
+        }
+    }
+
+    // A slot line's newline.
+    fn end_line(
+        self,
+        reader: SlotReader,
         table: &mut [u32],
         arrivals: &mut [u32],
         out: &mut [u8],
@@ -233,16 +285,10 @@ impl Running {
         requires sizes { ⌜ Sizes self ⌝ }
         requires lent { ⌜ (length (now table) ≡ 5125) × (length (now arrivals) ≡ 32) ⌝ }
         requires room { ⌜ at + 1024 ≤ length (now out) ⌝ }
-        ensures { λ r. ⌜ Turns (λ rest. lineFrom (stateOf self (now (table .entry))) (slotOf reader (take (lineWords self) (now (arrivals .entry)))) (linesOf (byte ∷ rest))) (now (out .entry)) at (stand (r .desk) (now (table .exit)) (now (arrivals .exit))) (now (out .exit)) (r .at) ⌝ }
+        ensures { λ r. ⌜ Turns (λ rest. lineFrom (stateOf self (now (table .entry))) (slotOf reader (take (lineWords self) (now (arrivals .entry)))) (linesOf (newline ∷ rest))) (now (out .entry)) at (stand (r .desk) (now (table .exit)) (now (arrivals .exit))) (now (out .exit)) (r .at) ⌝ }
     {
         let crossbar = self.crossbar;
         let width = (crossbar.numbers.ports as usize) * 2;
-        if byte != NEWLINE {
-            return Turn {
-                desk: Desk::Within(self, reader.step(byte, &mut arrivals[..width])),
-                at: at,
-            };
-        }
         if !reader.finish(&mut arrivals[..width]) {
             return Turn {
                 desk: Desk::Over,

@@ -35,7 +35,7 @@ unfolding fold fieldStep
 broken-stays [] = refl
 broken-stays (b ∷ f) = broken-stays f
 
-tag-steps : (w : ℕ) (n : Number) (f : List ℕ) → fold fieldStep (Tag w n) f ≡ Tag w (fold numberStep n f)
+pub tag-steps : (w : ℕ) (n : Number) (f : List ℕ) → fold fieldStep (Tag w n) f ≡ Tag w (fold numberStep n f)
 unfolding fold fieldStep
 tag-steps w n [] = refl
 tag-steps w n (b ∷ f) = tag-steps w (numberStep n b) f

@@ -5,4 +5,5 @@ pub mod Prints
 pub mod Numbers
 pub mod Fields
 pub mod Reading
+pub mod Parts
 pub mod Examples

@@ -1,7 +1,15 @@
-// The lines of an arrival list, read one byte at a time: no line and no field has a longest length, and nothing is kept but the state here.
-// What a line means is said of the whole line in specs/Lines.antt; specs/Reading.antt has the law that the steps below come to that.
+// The lines of an arrival list: the first one read one byte at a time, a slot's field by field from the pieces that it comes in. No line and no
+// field has a longest length, and nothing is kept but the state here. What a line means is said of the whole line in specs/Lines.antt;
+// specs/Reading.antt has the law that a step a byte comes to that, and specs/Parts.antt those by which many bytes are read at once.
+ghost use Prim.Native.Nat.{_≤_, _<_};
 ghost use mathlib.Core.Path.{_≡_};
-ghost use Rattle.text.specs.Steps.{grown, numberStep, colonStep, outputStep, fieldStep, fieldEnd, tagEnd, slotOf, readerStart, endField, slotStep, Finished, isGood, oneMore, firstStart, firstStep, firstAnswer};
+ghost use lib.ListN.{length, getD};
+ghost use Rattle.laws.specs.Tests.{No};
+ghost use Rattle.text.specs.declared.Number.the-variants.{Empty, Value};
+ghost use Rattle.text.specs.declared.Field.the-variants.{Start, Dash, Output, Tag, NoField};
+ghost use Rattle.text.specs.Lines.{space, colon, isDigit};
+ghost use Rattle.text.specs.Steps.{grown, numberStep, fieldStep, fieldEnd, tagEnd, slotOf, readerStart, endField, slotStep, Finished, isGood, oneMore, firstStart, firstStep, firstAnswer};
+ghost use Rattle.text.specs.Parts.{ends, endsLine, Upto, Taken, Grows};
 
 pub mod print;
 
@@ -57,6 +65,28 @@ pub struct FirstReader {
 pub struct SlotReader {
     at: usize,
     field: Field,
+}
+
+// A slot line as far as a piece has it, and the first byte that was not taken: the line's newline, or the piece's end.
+pub struct Part {
+    pub reader: SlotReader,
+    pub next: usize,
+}
+
+// The same of a field, of a number, and of its digits.
+struct FieldPart {
+    field: Field,
+    next: usize,
+}
+
+struct NumberPart {
+    number: Number,
+    next: usize,
+}
+
+struct Digits {
+    value: u32,
+    next: usize,
 }
 
 impl FirstReader {
@@ -127,18 +157,25 @@ impl SlotReader {
         }
     }
 
-    // One byte of a line, and no newline. Where a field ends, its words are written.
-    pub fn step(self, byte: u8, words: &mut [u32]) -> SlotReader
-        ensures { λ r. ⌜ slotOf r (now (words .exit)) ≡ slotStep (slotOf self (now (words .entry))) byte ⌝ }
+    // The bytes of a piece from `from` on, as far as they are the line's. Where a field ends, its words are written.
+    pub fn read(self, piece: &[u8], from: usize, words: &mut [u32]) -> Part
+        requires { ⌜ from ≤ length (now piece) ⌝ }
+        ensures { λ r. ⌜ Taken slotStep endsLine (now (piece .entry)) (slotOf self (now (words .entry))) from (slotOf (r .reader) (now (words .exit))) (r .next) ⌝ }
     {
-        if byte == SPACE {
-            return self.end_field(words);
-        }
-        let at = self.at;
-        let field = self.field;
-        SlotReader {
-            at,
-            field: field.step(byte),
+        let mut reader = self;
+        let mut next = from;
+        loop {
+            let part = reader.rest(piece, next);
+            reader = part.reader;
+            next = part.next;
+            if next == piece.len() {
+                return part;
+            }
+            if piece[next] == NEWLINE {
+                return part;
+            }
+            reader = reader.end_field(words);
+            next += 1;
         }
     }
 
@@ -150,6 +187,22 @@ impl SlotReader {
         let at = last.at;
         let field = last.field;
         field.is_good() && at == words.len()
+    }
+
+    // What a piece has of the field that the line has come to.
+    fn rest(self, piece: &[u8], from: usize) -> Part
+        requires { ⌜ from ≤ length (now piece) ⌝ }
+        ensures at { λ r. ⌜ r .reader .at ≡ self .at ⌝ }
+        ensures field { λ r. ⌜ Taken fieldStep (ends space) (now (piece .entry)) (self .field) from (r .reader .field) (r .next) ⌝ }
+    {
+        let at = self.at;
+        let field = self.field;
+        let part = field.read(piece, from);
+        let read = part.field;
+        Part {
+            reader: SlotReader { at, field: read },
+            next: part.next,
+        }
     }
 
     fn end_field(self, words: &mut [u32]) -> SlotReader
@@ -188,6 +241,7 @@ fn one_more(ended: u8) -> u8
 }
 
 impl Number {
+    // A byte of a first line's number.
     fn step(self, byte: u8) -> Number
         ensures { λ r. ⌜ r ≡ numberStep self byte ⌝ }
     {
@@ -195,6 +249,22 @@ impl Number {
             Number::Empty => grown(0, byte),
             Number::Value(value) => grown(value, byte),
             Number::NoNumber => Number::NoNumber,
+        }
+    }
+
+    // The bytes up to `stop`, a space, a newline or the piece's end.
+    fn read(self, piece: &[u8], from: usize, stop: u8) -> NumberPart
+        requires from { ⌜ from ≤ length (now piece) ⌝ }
+        requires stop { ⌜ No (isDigit stop) ⌝ }
+        ensures { λ r. ⌜ Taken numberStep (ends stop) (now (piece .entry)) self from (r .number) (r .next) ⌝ }
+    {
+        match self {
+            Number::Empty => read_empty(piece, from, stop),
+            Number::Value(value) => read_value(value, piece, from, stop),
+            Number::NoNumber => NumberPart {
+                number: Number::NoNumber,
+                next: skip(piece, from, stop),
+            },
         }
     }
 }
@@ -216,21 +286,97 @@ fn grown(value: u32, byte: u8) -> Number
     Number::Value(sum as u32)
 }
 
+// A number that has no digit yet is not zero.
+fn read_empty(piece: &[u8], from: usize, stop: u8) -> NumberPart
+    requires from { ⌜ from ≤ length (now piece) ⌝ }
+    requires stop { ⌜ No (isDigit stop) ⌝ }
+    ensures { λ r. ⌜ Taken numberStep (ends stop) (now (piece .entry)) Empty from (r .number) (r .next) ⌝ }
+{
+    let part = read_value(0, piece, from, stop);
+    if part.next == from {
+        return NumberPart {
+            number: Number::Empty,
+            next: from,
+        };
+    }
+    part
+}
+
+// What stands between the digits and the number's end makes it none.
+fn read_value(value: u32, piece: &[u8], from: usize, stop: u8) -> NumberPart
+    requires from { ⌜ from ≤ length (now piece) ⌝ }
+    requires stop { ⌜ No (isDigit stop) ⌝ }
+    ensures { λ r. ⌜ Taken numberStep (ends stop) (now (piece .entry)) (Value value) from (r .number) (r .next) ⌝ }
+{
+    let digits = read_digits(value, piece, from);
+    let next = skip(piece, digits.next, stop);
+    if next == digits.next {
+        return NumberPart {
+            number: Number::Value(digits.value),
+            next,
+        };
+    }
+    NumberPart {
+        number: Number::NoNumber,
+        next,
+    }
+}
+
+// The digits that fit, as `grown` takes them one by one.
+fn read_digits(value: u32, piece: &[u8], from: usize) -> Digits
+    requires { ⌜ from ≤ length (now piece) ⌝ }
+    ensures { λ r. ⌜ Grows (now (piece .entry)) value from (r .value) (r .next) ⌝ }
+{
+    let mut read = value;
+    let mut next = from;
+    while next < piece.len() {
+        let digit = piece[next];
+        if digit < b'0' {
+            return Digits { value: read, next };
+        }
+        if digit > b'9' {
+            return Digits { value: read, next };
+        }
+        let sum = (read as u64) * 10 + ((digit - b'0') as u64);
+        if sum > LARGEST {
+            return Digits { value: read, next };
+        }
+        read = sum as u32;
+        next += 1;
+    }
+    Digits { value: read, next }
+}
+
+// The first byte from `from` on that is `stop` or ends a field, or the piece's end.
+fn skip(piece: &[u8], from: usize, stop: u8) -> usize
+    requires { ⌜ from ≤ length (now piece) ⌝ }
+    ensures { λ r. ⌜ Upto (ends stop) (now (piece .entry)) from r ⌝ }
+{
+    let mut next = from;
+    while next < piece.len() && !ends(piece[next], stop) {
+        next += 1;
+    }
+    next
+}
+
+fn ends(byte: u8, stop: u8) -> bool
+    ensures { λ r. ⌜ r ≡ ends stop byte ⌝ }
+{
+    byte == stop || byte == SPACE || byte == NEWLINE
+}
+
 impl Field {
-    fn step(self, byte: u8) -> Field
-        ensures { λ r. ⌜ r ≡ fieldStep self byte ⌝ }
+    // The bytes up to a space, a newline or the piece's end.
+    fn read(self, piece: &[u8], from: usize) -> FieldPart
+        requires { ⌜ from ≤ length (now piece) ⌝ }
+        ensures { λ r. ⌜ Taken fieldStep (ends space) (now (piece .entry)) self from (r .field) (r .next) ⌝ }
     {
         match self {
-            Field::Start => {
-                if byte == DASH {
-                    return Field::Dash;
-                }
-                output_step(Number::Empty, byte)
-            }
-            Field::Output(number) => output_step(number, byte),
-            Field::Tag(word, number) => Field::Tag(word, number.step(byte)),
-            Field::Dash => Field::NoField,
-            Field::NoField => Field::NoField,
+            Field::Start => read_start(piece, from),
+            Field::Output(number) => read_output(number, piece, from),
+            Field::Tag(word, number) => read_tag(word, number, piece, from),
+            Field::Dash => read_dash(piece, from),
+            Field::NoField => read_broken(piece, from),
         }
     }
 
@@ -257,26 +403,89 @@ impl Field {
     }
 }
 
-fn output_step(number: Number, byte: u8) -> Field
-    ensures { λ r. ⌜ r ≡ outputStep number byte ⌝ }
+// A field that has no byte yet stays so.
+fn read_start(piece: &[u8], from: usize) -> FieldPart
+    requires { ⌜ from ≤ length (now piece) ⌝ }
+    ensures { λ r. ⌜ Taken fieldStep (ends space) (now (piece .entry)) Start from (r .field) (r .next) ⌝ }
 {
-    if byte == COLON {
-        return colon_step(number);
+    if from < piece.len() && piece[from] == DASH {
+        return read_dash(piece, from + 1);
     }
-    Field::Output(number.step(byte))
+    let part = read_output(Number::Empty, piece, from);
+    if part.next == from {
+        return FieldPart {
+            field: Field::Start,
+            next: from,
+        };
+    }
+    part
 }
 
-// An output's word is the output + 1, so the largest number is no output.
-fn colon_step(number: Number) -> Field
-    ensures { λ r. ⌜ r ≡ colonStep number ⌝ }
+fn read_output(number: Number, piece: &[u8], from: usize) -> FieldPart
+    requires { ⌜ from ≤ length (now piece) ⌝ }
+    ensures { λ r. ⌜ Taken fieldStep (ends space) (now (piece .entry)) (Output number) from (r .field) (r .next) ⌝ }
+{
+    let part = number.read(piece, from, COLON);
+    let next = part.next;
+    let output = part.number;
+    if next < piece.len() && piece[next] == COLON {
+        return read_colon(output, piece, next);
+    }
+    FieldPart {
+        field: Field::Output(output),
+        next,
+    }
+}
+
+// From the colon on. An output's word is the output + 1, so the largest number is no output.
+fn read_colon(number: Number, piece: &[u8], from: usize) -> FieldPart
+    requires { ⌜ (from < length (now piece)) × (getD (now piece) from 0 ≡ colon) ⌝ }
+    ensures { λ r. ⌜ Taken fieldStep (ends space) (now (piece .entry)) (Output number) from (r .field) (r .next) ⌝ }
 {
     let Number::Value(output) = number else {
-        return Field::NoField;
+        return read_broken(piece, from + 1);
     };
     if output > LARGEST_OUTPUT {
-        return Field::NoField;
+        return read_broken(piece, from + 1);
     }
-    Field::Tag(output + 1, Number::Empty)
+    read_tag(output + 1, Number::Empty, piece, from + 1)
+}
+
+fn read_tag(word: u32, number: Number, piece: &[u8], from: usize) -> FieldPart
+    requires { ⌜ from ≤ length (now piece) ⌝ }
+    ensures { λ r. ⌜ Taken fieldStep (ends space) (now (piece .entry)) (Tag word number) from (r .field) (r .next) ⌝ }
+{
+    let part = number.read(piece, from, SPACE);
+    let tag = part.number;
+    FieldPart {
+        field: Field::Tag(word, tag),
+        next: part.next,
+    }
+}
+
+// Nothing stands behind a `-`.
+fn read_dash(piece: &[u8], from: usize) -> FieldPart
+    requires { ⌜ from ≤ length (now piece) ⌝ }
+    ensures { λ r. ⌜ Taken fieldStep (ends space) (now (piece .entry)) Dash from (r .field) (r .next) ⌝ }
+{
+    let part = read_broken(piece, from);
+    if part.next == from {
+        return FieldPart {
+            field: Field::Dash,
+            next: from,
+        };
+    }
+    part
+}
+
+fn read_broken(piece: &[u8], from: usize) -> FieldPart
+    requires { ⌜ from ≤ length (now piece) ⌝ }
+    ensures { λ r. ⌜ Taken fieldStep (ends space) (now (piece .entry)) NoField from (r .field) (r .next) ⌝ }
+{
+    FieldPart {
+        field: Field::NoField,
+        next: skip(piece, from, SPACE),
+    }
 }
 
 fn tag_end(word: u32, number: Number) -> Arrival

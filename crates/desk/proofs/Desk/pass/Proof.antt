@@ -3,15 +3,13 @@
 use borrow.Author.Tests.{leb-true, leb-false}
 use mathlib.Core.Logic.{⊎-elim}
 use native.Mathlib.Nat.{eq-or-lt-of-le}
-use Prim.Native.Nat.{_+_, _≤_, _-_}
+use Prim.Native.Nat.{_≤_, _-_}
 use mathlib.Core.Path.{_≡_, refl, sym}
 use native.Mathlib.Omega.{arith}
-use native.Mathlib.Numerals.{add-one}
-use lib.ListN.{length, getD, drop}
-use lib.Seq.{drop-cons}
+use lib.ListN.{length, drop}
 use denote.Ref.{now}
 use Rattle.desk.specs.Coming.{stand, Goes}
-use Rattle.desk.specs.Turns.{goes-none, goes-byte}
+use Rattle.desk.specs.Turns.{goes-none, goes-then}
 use Rattle.desk.proofs.Desk.pass.Statement.{statement}
 use Rattle.desk.proofs.Desk.pass.Tie as tie
 
@@ -27,31 +25,26 @@ sub-most c = omega arith
 loop-holds : tie.Need-loop-holds Inv-loop μ-loop
 loop-holds c = (omega arith, c .before .before .before .before .pre .1 .0, c .before .before .before .before .pre .1 .1 .0 .0, c .before .before .before .before .pre .1 .1 .0 .1, refl, omega arith, λ e. refl, goes-none _ _ _ _ (c .before .before .before .before .pre .0))
 
-shared-slice-read-step : tie.Need-shared-slice-read-step Inv-loop μ-loop
-shared-slice-read-step c = omega arith
-
-step-requires : tie.Need-step-requires Inv-loop μ-loop
-step-requires c κs = (c .before .before .before .before .before .before .loop .inv .7 .inside, ((c .before .before .before .before .before .before .loop .inv .2, c .before .before .before .before .before .before .loop .inv .3), omega (arith, c .before .before .before .before .before .before .before .before .before .before .before .pre .1 .1 .1, leb-true (c .before .before .before .before .before .before .loop .at) (length (now (c .before .before .before .before .before .before .before .before .before .before .before .args .out)) - 1024) (c .before .before .before .before .if1 .taken), c .before .before .before .before .before .before .loop .inv .4)))
-
-add-next : tie.Need-add-next Inv-loop μ-loop
-add-next c = omega arith
+advance-requires : tie.Need-advance-requires Inv-loop μ-loop
+advance-requires c κs = let i = c .before .before .before .before .before .loop .inv in
+    (i .7 .inside, (omega arith, ((i .2, i .3), omega (arith, c .before .before .before .before .before .before .before .before .before .before .pre .1 .1 .1, leb-true (c .before .before .before .before .before .loop .at) (length (now (c .before .before .before .before .before .before .before .before .before .before .args .out)) - 1024) (c .before .before .before .if1 .taken), i .4))))
 
 loop-less : tie.Need-loop-less Inv-loop μ-loop
-loop-less c = omega arith
+loop-less c = omega (arith, c .before .before .before .before .before .before .advance .ensures .1)
 
 loop-again : tie.Need-loop-again Inv-loop μ-loop
-loop-again c = let i = c .before .before .before .before .before .before .before .before .before .before .before .before .before .loop .inv in
-    let a = c .before .before .before .before .before .before .before .before .before .before .before .before .before .before .before .before .before .before .args in
-    let n = c .before .before .before .before .before .before .before .before .before .before .before .before .before .loop .next in
-    let s = c .before .before .before .before .before .before .step .ensures in (
-      omega (arith, i .0),
-      omega arith,
-      omega (arith, c .before .before .before .before .before .before .step .kept .1 .1 .0, i .2),
-      omega (arith, c .before .before .before .before .before .before .step .kept .1 .1 .1 .0, i .3),
-      omega (arith, c .before .before .before .before .before .before .step .kept .1 .1 .1 .1 .0, i .4),
-      omega (arith, s .within, i .4, leb-true (c .before .before .before .before .before .before .before .before .before .before .before .before .before .loop .at) (length (now (a .out)) - 1024) (c .before .before .before .before .before .before .before .before .before .before .before .if1 .taken), c .before .before .before .before .before .before .step .kept .1 .1 .1 .1 .0, c .before .before .before .before .before .before .before .before .before .before .before .before .before .before .before .before .before .before .pre .1 .1 .1),
-      λ e. absurd (omega (arith, i .0)),
-      goes-byte (getD (now (a .piece)) n 0) (drop (n + 1) (now (a .piece))) (rw (drop-cons (now (a .piece)) n 0 (omega arith), ← add-one n) at (i .7)) s,
+loop-again c = let i = c .before .before .before .before .before .before .before .before .before .before .before .before .loop .inv in
+    let a = c .before .before .before .before .before .before .before .before .before .before .before .before .before .before .before .before .before .args in
+    let e = c .before .before .before .before .before .before .advance .ensures in
+    let k = c .before .before .before .before .before .before .advance .kept .1 .1 .1 in (
+      omega (arith, i .0, e .1 .0),
+      e .1 .1,
+      omega (arith, k .0, i .2),
+      omega (arith, k .1 .0, i .3),
+      omega (arith, k .1 .1 .0, i .4),
+      omega (arith, e .1 .2, i .4, leb-true (c .before .before .before .before .before .before .before .before .before .before .before .before .loop .at) (length (now (a .out)) - 1024) (c .before .before .before .before .before .before .before .before .before .before .if1 .taken), k .1 .1 .0, c .before .before .before .before .before .before .before .before .before .before .before .before .before .before .before .before .before .pre .1 .1 .1),
+      λ q. absurd (omega (arith, i .0, e .1 .0, q)),
+      goes-then (i .7) (e .0),
     )
 
 same-length : tie.Need-same-length Inv-loop μ-loop
@@ -86,9 +79,7 @@ pass-spec =
     μ-loop
     sub-most
     loop-holds
-    shared-slice-read-step
-    step-requires
-    add-next
+    advance-requires
     loop-less
     loop-again
     same-length

@@ -1,0 +1,349 @@
+-- What the code does with the part of a line that a piece of the input has: the steps over its bytes, up to the byte that ends what is read.
+-- Definitions that its contracts cite, then the laws by which parts are joined, and numbers, fields and lines read at once.
+-- Assumes nothing.
+use Prim.Native.Nat.{ℕ, _+_, _-_, _≤_, _<_}
+use mathlib.Core.Path.{_≡_, refl, sym, ap, _∙_}
+use mathlib.Core.Logic.{⊎-elim}
+use mathlib.Core.Bool.{Bool, So, true, false, not, _||_}
+use mathlib.Core.List.{List, [], _∷_, _++_}
+use native.Mathlib.Omega.{arith}
+use lib.Dec.{eqb}
+use lib.ListN.{length, getD, take, drop, take-append-drop}
+use lib.Seq.{drop-cons, drop-drop, take-add}
+use borrow.Author.Tests.{eqb-true, eq-eqb, ne-eqb}
+use Rattle.laws.specs.Tests.{No, both, join, either, on-right, neither, refuted, denied, deny}
+use Rattle.laws.specs.Folds.{fold, each, fold-more, each-more}
+use Rattle.text.specs.declared.Number.{Number}
+use Rattle.text.specs.declared.Number.the-variants.{Empty, Value, NoNumber}
+use Rattle.text.specs.declared.Field.{Field}
+use Rattle.text.specs.declared.Field.the-variants.{Start, Dash, Output, Tag, NoField}
+use Rattle.text.specs.declared.SlotReader.{SlotReader}
+use Rattle.text.specs.Lines.{space, dash, colon, isDigit}
+use Rattle.text.specs.Steps.{grown, numberStep, colonStep, outputStep, fieldStep, Slot, slot, slotOf, endField, slotStep}
+use Rattle.text.specs.Numbers.{none-stays}
+use Rattle.text.specs.Fields.{broken-stays, tag-steps}
+
+abbrev pub newline : ℕ
+newline = 10
+
+-- the bytes of a piece from one place up to another
+unfoldable pub part : List ℕ → ℕ → ℕ → List ℕ
+part piece i j = take (j - i) (drop i piece)
+
+-- what ends a field, and a number that may end at `stop` too
+unfoldable pub ends : ℕ → ℕ → Bool
+ends stop b = eqb b stop || (eqb b space || eqb b newline)
+
+abbrev pub endsLine : ℕ → Bool
+endsLine b = eqb b newline
+
+-- every byte between two places passes a test
+pub record Span (p : ℕ → Bool) (piece : List ℕ) (from next : ℕ) : Type 0 where
+  pub order : from ≤ next
+  pub inside : next ≤ length piece
+  pub all : So (each p (part piece from next))
+
+-- the first place from `from` on whose byte ends what is read, or the piece's end
+pub record Upto (end : ℕ → Bool) (piece : List ℕ) (from next : ℕ) : Type 0 where
+  pub span : Span (λ b. not (end b)) piece from next
+  pub here : next < length piece → So (end (getD piece next 0))
+
+-- a state went by its steps from one place to another, over bytes that pass a test
+pub record Passed {S : Type 0} (step : S → ℕ → S) (p : ℕ → Bool) (piece : List ℕ) (s : S) (from : ℕ) (s′ : S) (next : ℕ) : Type 0 where
+  pub span : Span p piece from next
+  pub steps : s′ ≡ fold step s (part piece from next)
+
+-- the same up to the first byte that ends what is read
+pub record Taken {S : Type 0} (step : S → ℕ → S) (end : ℕ → Bool) (piece : List ℕ) (s : S) (from : ℕ) (s′ : S) (next : ℕ) : Type 0 where
+  pub place : Upto end piece from next
+  pub steps : s′ ≡ fold step s (part piece from next)
+
+-- and over digits, up to a byte that makes the number none
+pub record Grows (piece : List ℕ) (v from v′ next : ℕ) : Type 0 where
+  pub digits : Passed numberStep isDigit piece (Value v) from (Value v′) next
+  pub here : next < length piece → grown v′ (getD piece next 0) ≡ NoNumber
+
+-- parts ---------------------------------------------------------------------------------------
+
+part-none : (piece : List ℕ) (i : ℕ) → part piece i i ≡ []
+unfolding part
+part-none piece i = ap (λ (n : ℕ). take n (drop i piece)) {x = i - i} {y = 0} (omega arith)
+
+part-join : (piece : List ℕ) (i j k : ℕ) → i ≤ j → j ≤ k → part piece i k ≡ part piece i j ++ part piece j k
+unfolding part
+part-join piece i j k h l =
+    ap (λ (n : ℕ). take n (drop i piece)) {x = k - i} {y = (j - i) + (k - j)} (omega arith)
+    ∙ take-add (j - i) (k - j) (drop i piece)
+    ∙ ap (λ (m : List ℕ). take (j - i) (drop i piece) ++ take (k - j) m) (drop-drop (j - i) i piece ∙ ap (λ (n : ℕ). drop n piece) {x = i + (j - i)} {y = j} (omega arith))
+
+part-one : (piece : List ℕ) (i : ℕ) → i < length piece → part piece i (i + 1) ≡ getD piece i 0 ∷ []
+unfolding part
+part-one piece i h = ap (λ (n : ℕ). take n (drop i piece)) {x = i + 1 - i} {y = 1} (omega arith) ∙ ap (λ (m : List ℕ). take 1 m) (drop-cons piece i 0 h)
+
+part-more : (piece : List ℕ) (i j : ℕ) → i ≤ j → j < length piece → part piece i (j + 1) ≡ part piece i j ++ (getD piece j 0 ∷ [])
+part-more piece i j h l = part-join piece i j (j + 1) h (omega arith) ∙ ap (λ (m : List ℕ). part piece i j ++ m) (part-one piece j l)
+
+part-first : (piece : List ℕ) (i j : ℕ) → i < j → i < length piece → part piece i j ≡ getD piece i 0 ∷ part piece (i + 1) j
+part-first piece i j h l = part-join piece i (i + 1) j (omega arith) (omega arith) ∙ ap (λ (m : List ℕ). m ++ part piece (i + 1) j) (part-one piece i l)
+
+pub part-rest : (piece : List ℕ) (i j : ℕ) → i ≤ j → drop i piece ≡ part piece i j ++ drop j piece
+unfolding part
+part-rest piece i j h =
+    sym (take-append-drop (j - i) (drop i piece))
+    ∙ ap (λ (m : List ℕ). take (j - i) (drop i piece) ++ m) (drop-drop (j - i) i piece ∙ ap (λ (n : ℕ). drop n piece) {x = i + (j - i)} {y = j} (omega arith))
+
+-- steps and tests over lists that are joined
+module _ {S A : Type 0} where
+  fold-join : (f : S → A → S) (s : S) (l m : List A) → fold f s (l ++ m) ≡ fold f (fold f s l) m
+  unfolding fold
+  fold-join f s [] m = refl
+  fold-join f s (a ∷ l) m = fold-join f (f s a) l m
+
+module _ {A : Type 0} where
+  each-join : (p : A → Bool) (l m : List A) → So (each p l) → So (each p m) → So (each p (l ++ m))
+  unfolding each
+  each-join p [] m h k = k
+  each-join p (a ∷ l) m h k = let x = both (p a) (each p l) h in join (p a) (each p (l ++ m)) (x .0) (each-join p l m (x .1) k)
+
+  each-as : (p q : A → Bool) → ((a : A) → So (p a) → So (q a)) → (l : List A) → So (each p l) → So (each q l)
+  unfolding each
+  each-as p q f [] h = refl
+  each-as p q f (a ∷ l) h = let x = both (p a) (each p l) h in join (q a) (each q l) (f a (x .0)) (each-as p q f l (x .1))
+
+-- spans ---------------------------------------------------------------------------------------
+
+module _ (p : ℕ → Bool) (piece : List ℕ) where
+  pub span-none : (i : ℕ) → i ≤ length piece → Span p piece i i
+  unfolding each
+  span-none i h = record { order = omega arith; inside = h; all = rw (part-none piece i) }
+
+  pub span-more : (i j : ℕ) → Span p piece i j → j < length piece → So (p (getD piece j 0)) → Span p piece i (j + 1)
+  span-more i j x l h = record {
+    order = omega (arith, x .order);
+    inside = omega arith;
+    all = rw (part-more piece i j (x .order) l) (each-more p (part piece i j) (getD piece j 0) (x .all) h);
+  }
+
+  span-join : (i j k : ℕ) → Span p piece i j → Span p piece j k → Span p piece i k
+  span-join i j k x y = record {
+    order = omega (arith, x .order, y .order);
+    inside = y .inside;
+    all = rw (part-join piece i j k (x .order) (y .order)) (each-join p (part piece i j) (part piece j k) (x .all) (y .all));
+  }
+
+  span-as : (q : ℕ → Bool) → ((b : ℕ) → So (p b) → So (q b)) → (i j : ℕ) → Span p piece i j → Span q piece i j
+  span-as q f i j x = record { order = x .order; inside = x .inside; all = each-as p q f (part piece i j) (x .all) }
+
+-- what is passed and what is taken ---------------------------------------------------------------
+
+module _ {S : Type 0} (step : S → ℕ → S) (p : ℕ → Bool) (piece : List ℕ) where
+  pub passed-none : (s : S) (i : ℕ) → i ≤ length piece → Passed step p piece s i s i
+  unfolding fold
+  passed-none s i h = record { span = span-none p piece i h; steps = rw (part-none piece i) }
+
+  pub passed-more : (s m t : S) (i j : ℕ) → Passed step p piece s i m j → j < length piece → So (p (getD piece j 0)) → t ≡ step m (getD piece j 0)
+      → Passed step p piece s i t (j + 1)
+  passed-more s m t i j x l h e = record {
+    span = span-more p piece i j (x .span) l h;
+    steps =
+        e
+        ∙ ap (λ (y : S). step y (getD piece j 0)) (x .steps)
+        ∙ sym (fold-more step s (part piece i j) (getD piece j 0))
+        ∙ sym (ap (λ (y : List ℕ). fold step s y) (part-more piece i j (x .span .order) l));
+  }
+
+  passed-join : (s m t : S) (i j k : ℕ) → Passed step p piece s i m j → Passed step p piece m j t k → Passed step p piece s i t k
+  passed-join s m t i j k x y = record {
+    span = span-join p piece i j k (x .span) (y .span);
+    steps =
+        y .steps
+        ∙ ap (λ (u : S). fold step u (part piece j k)) (x .steps)
+        ∙ sym (fold-join step s (part piece i j) (part piece j k))
+        ∙ sym (ap (λ (l : List ℕ). fold step s l) (part-join piece i j k (x .span .order) (y .span .order)));
+  }
+
+module _ {S : Type 0} (step : S → ℕ → S) (end : ℕ → Bool) (piece : List ℕ) where
+  pub taken-none : (s : S) (i : ℕ) → Upto end piece i i → Taken step end piece s i s i
+  unfolding fold
+  taken-none s i u = record { place = u; steps = rw (part-none piece i) }
+
+  -- a part, and then what is taken from its state
+  taken-then : (s m t : S) (i j k : ℕ) → Passed step (λ b. not (end b)) piece s i m j → Taken step end piece m j t k → Taken step end piece s i t k
+  taken-then s m t i j k x y =
+      let z = passed-join step (λ b. not (end b)) piece s m t i j k x (record { span = y .place .span; steps = y .steps }) in
+      record { place = record { span = z .span; here = y .place .here }; steps = z .steps }
+
+  taken-byte : (s m t : S) (i k : ℕ) → i < length piece → No (end (getD piece i 0)) → m ≡ step s (getD piece i 0) → Taken step end piece m (i + 1) t k
+      → Taken step end piece s i t k
+  taken-byte s m t i k l h e y = taken-then s m t i (i + 1) k (passed-more step q piece s s m i i (passed-none step q piece s i (omega arith)) l (deny (end (getD piece i 0)) h) e) y
+    where
+      q : ℕ → Bool
+      q b = not (end b)
+
+  -- from another state, which the first byte takes to the same
+  taken-as : (s s′ t : S) (i k : ℕ) → i < k → step s′ (getD piece i 0) ≡ step s (getD piece i 0) → Taken step end piece s i t k → Taken step end piece s′ i t k
+  unfolding fold
+  taken-as s s′ t i k h e x = record {
+    place = x .place;
+    steps = x .steps ∙ ap (λ (l : List ℕ). fold step s l) first ∙ ap (λ (m : S). fold step m (part piece (i + 1) k)) (sym e) ∙ sym (ap (λ (l : List ℕ). fold step s′ l) first);
+  }
+    where
+      first : part piece i k ≡ getD piece i 0 ∷ part piece (i + 1) k
+      first = part-first piece i k h (omega (arith, x .place .span .inside))
+
+-- a number --------------------------------------------------------------------------------------
+
+no-digits : (isDigit space ≡ false) × (isDigit newline ≡ false)
+unfolding isDigit
+no-digits = (refl, refl)
+
+-- a digit ends nothing
+stop-digit : (stop b : ℕ) → No (isDigit stop) → So (isDigit b) → So (not (ends stop b))
+unfolding ends
+stop-digit stop b h d = deny (eqb b stop || (eqb b space || eqb b newline)) (go (eqb b stop) refl (eqb b space) refl (eqb b newline) refl)
+  where
+    no : (c : ℕ) → No (isDigit c) → eqb b c ≡ true → ⊥
+    no c k e = refuted d (ap isDigit (eqb-true b c e) ∙ k)
+
+    go : (x : Bool) → eqb b stop ≡ x → (y : Bool) → eqb b space ≡ y → (z : Bool) → eqb b newline ≡ z → No (x || (y || z))
+    go true e y f z g = absurd (no stop h e)
+    go false e true f z g = absurd (no space (no-digits .0) f)
+    go false e false f true g = absurd (no newline (no-digits .1) g)
+    go false e false f false g = refl
+
+module _ (piece : List ℕ) (stop : ℕ) (no : No (isDigit stop)) where
+  grows-clear : {v i v′ j : ℕ} → Grows piece v i v′ j → Passed numberStep (λ b. not (ends stop b)) piece (Value v) i (Value v′) j
+  grows-clear {i = i} {j = j} x = record {
+    span = span-as isDigit piece (λ b. not (ends stop b)) (λ b d. stop-digit stop b no d) i j (x .digits .span);
+    steps = x .digits .steps;
+  }
+
+  -- digits up to the number's end, or up to a byte that makes it none, however many follow
+  pub value-whole : (v i v′ j : ℕ) → Grows piece v i v′ j → Upto (ends stop) piece j j → Taken numberStep (ends stop) piece (Value v) i (Value v′) j
+  value-whole v i v′ j x u = let y = grows-clear x in record { place = record { span = y .span; here = u .here }; steps = y .steps }
+
+  pub value-none : (v i v′ j k : ℕ) → Grows piece v i v′ j → Upto (ends stop) piece j k → j < k → Taken numberStep (ends stop) piece (Value v) i NoNumber k
+  unfolding fold
+  value-none v i v′ j k x u h = taken-then numberStep (ends stop) piece (Value v) (Value v′) NoNumber i j k (grows-clear x) (record { place = u; steps = sym broken })
+    where
+      l : j < length piece
+      l = omega (arith, u .span .inside)
+
+      broken : fold numberStep (Value v′) (part piece j k) ≡ NoNumber
+      broken = ap (λ (m : List ℕ). fold numberStep (Value v′) m) (part-first piece j k h l) ∙ ap (λ (n : Number). fold numberStep n (part piece (j + 1) k)) (x .here l) ∙ none-stays (part piece (j + 1) k)
+
+  -- no digit yet, and none any more
+  pub empty-taken : (n : Number) (i k : ℕ) → i < k → Taken numberStep (ends stop) piece (Value 0) i n k → Taken numberStep (ends stop) piece Empty i n k
+  empty-taken n i k h x = taken-as numberStep (ends stop) piece (Value 0) Empty n i k h refl x
+
+  pub none-taken : (i k : ℕ) → Upto (ends stop) piece i k → Taken numberStep (ends stop) piece NoNumber i NoNumber k
+  none-taken i k u = record { place = u; steps = sym (none-stays (part piece i k)) }
+
+-- a field ---------------------------------------------------------------------------------------
+
+-- an output's number in a field
+output-steps : (n : Number) (f : List ℕ) → So (each (λ b. not (ends colon b)) f) → fold fieldStep (Output n) f ≡ Output (fold numberStep n f)
+unfolding fold each fieldStep outputStep ends
+output-steps n [] h = refl
+output-steps n (b ∷ f) h = let x = both (not (ends colon b)) _ h in rw (neither (eqb b colon) _ (denied (ends colon b) (x .0)) .0) (output-steps (numberStep n b) f (x .1))
+
+-- what ends no number ends no field
+clear-colon : (b : ℕ) → So (not (ends colon b)) → So (not (ends space b))
+unfolding ends
+clear-colon b h = let x = neither (eqb b space) (eqb b newline) (neither (eqb b colon) _ (denied (ends colon b) h) .1) in deny (ends space b) (rw (x .0, x .1))
+
+-- what ends a number and is no colon ends the field
+ends-field : (b : ℕ) → (b ≡ colon → ⊥) → So (ends colon b) → So (ends space b)
+unfolding ends
+ends-field b h k = ⊎-elim (λ e. absurd (h (eqb-true b colon e))) (λ s. on-right (eqb b space) _ s) (either (eqb b colon) _ k)
+
+module _ (piece : List ℕ) where
+  output-passed : (n n′ : Number) (i k : ℕ) → Taken numberStep (ends colon) piece n i n′ k → Passed fieldStep (λ b. not (ends space b)) piece (Output n) i (Output n′) k
+  output-passed n n′ i k x = record {
+    span = span-as (λ b. not (ends colon b)) piece (λ b. not (ends space b)) clear-colon i k (x .place .span);
+    steps = ap Output (x .steps) ∙ sym (output-steps n (part piece i k) (x .place .span .all));
+  }
+
+  -- an output without a colon, and one up to its colon with what the field is from there
+  pub output-taken : (n n′ : Number) (i k : ℕ) → (k < length piece → getD piece k 0 ≡ colon → ⊥) → Taken numberStep (ends colon) piece n i n′ k
+      → Taken fieldStep (ends space) piece (Output n) i (Output n′) k
+  output-taken n n′ i k h x =
+      let y = output-passed n n′ i k x in
+      record { place = record { span = y .span; here = λ l. ends-field (getD piece k 0) (h l) (x .place .here l) }; steps = y .steps }
+
+  pub output-then : (n n′ : Number) (f : Field) (i j k : ℕ) → Taken numberStep (ends colon) piece n i n′ j → Taken fieldStep (ends space) piece (Output n′) j f k
+      → Taken fieldStep (ends space) piece (Output n) i f k
+  output-then n n′ f i j k x y = taken-then fieldStep (ends space) piece (Output n) (Output n′) f i j k (output-passed n n′ i j x) y
+
+  pub colon-taken : (n : Number) (m f : Field) (i k : ℕ) → i < length piece → getD piece i 0 ≡ colon → m ≡ colonStep n → Taken fieldStep (ends space) piece m (i + 1) f k
+      → Taken fieldStep (ends space) piece (Output n) i f k
+  unfolding fieldStep outputStep ends
+  colon-taken n m f i k l e q x = taken-byte fieldStep (ends space) piece (Output n) m f i k l (rw e) (rw e q) x
+
+  pub tag-taken : (w : ℕ) (n n′ : Number) (i k : ℕ) → Taken numberStep (ends space) piece n i n′ k → Taken fieldStep (ends space) piece (Tag w n) i (Tag w n′) k
+  tag-taken w n n′ i k x = record { place = x .place; steps = ap (Tag w) (x .steps) ∙ sym (tag-steps w n (part piece i k)) }
+
+  pub broken-taken : (i k : ℕ) → Upto (ends space) piece i k → Taken fieldStep (ends space) piece NoField i NoField k
+  broken-taken i k u = record { place = u; steps = sym (broken-stays (part piece i k)) }
+
+  -- a byte behind a dash
+  pub dash-taken : (f : Field) (i k : ℕ) → i < k → Taken fieldStep (ends space) piece NoField i f k → Taken fieldStep (ends space) piece Dash i f k
+  unfolding fieldStep
+  dash-taken f i k h x = taken-as fieldStep (ends space) piece NoField Dash f i k h refl x
+
+  -- a field begins
+  pub start-dash : (f : Field) (i k : ℕ) → i < length piece → getD piece i 0 ≡ dash → Taken fieldStep (ends space) piece Dash (i + 1) f k → Taken fieldStep (ends space) piece Start i f k
+  unfolding fieldStep ends
+  start-dash f i k l e x = taken-byte fieldStep (ends space) piece Start Dash f i k l (rw e) (rw e) x
+
+  pub start-output : (f : Field) (i k : ℕ) → i < k → (getD piece i 0 ≡ dash → ⊥) → Taken fieldStep (ends space) piece (Output Empty) i f k → Taken fieldStep (ends space) piece Start i f k
+  unfolding fieldStep
+  start-output f i k h e x = taken-as fieldStep (ends space) piece (Output Empty) Start f i k h (rw (ne-eqb (getD piece i 0) dash e)) x
+
+-- a slot line -----------------------------------------------------------------------------------
+
+-- a field's part in a line
+field-steps : (at : ℕ) (f : Field) (ws l : List ℕ) → So (each (λ b. not (ends space b)) l) → fold slotStep (slot at f ws) l ≡ slot at (fold fieldStep f l) ws
+unfolding fold each slotStep ends
+field-steps at f ws [] h = refl
+field-steps at f ws (b ∷ l) h = let x = both (not (ends space b)) _ h in rw (neither (eqb b space) _ (denied (ends space b) (x .0)) .0) (field-steps at (fieldStep f b) ws l (x .1))
+
+-- what ends no field ends no line
+clear-space : (b : ℕ) → So (not (ends space b)) → So (not (endsLine b))
+unfolding ends
+clear-space b h = deny (eqb b newline) (neither (eqb b space) _ (neither (eqb b space) _ (denied (ends space b) h) .1) .1)
+
+-- what ends a field and is no newline is a space
+ends-space : (b : ℕ) → (b ≡ newline → ⊥) → So (ends space b) → b ≡ space
+unfolding ends
+ends-space b h k =
+    ⊎-elim (λ e. eqb-true b space e)
+    (λ s. ⊎-elim (λ e. eqb-true b space e) (λ e. absurd (h (eqb-true b newline e))) (either (eqb b space) _ s))
+    (either (eqb b space) _ k)
+
+-- how far a line was read
+abbrev pub Reached : List ℕ → Slot → ℕ → Slot → ℕ → Type 0
+Reached piece s i s′ j = Passed slotStep (λ b. not (endsLine b)) piece s i s′ j
+
+module _ (piece : List ℕ) (s : Slot) (i : ℕ) where
+  -- by what a piece has of a field, and by the space that ends it
+  pub line-field : (r r′ : SlotReader) (ws : List ℕ) (j k : ℕ) → Reached piece s i (slotOf r ws) j → r′ .at ≡ r .at → Taken fieldStep (ends space) piece (r .field) j (r′ .field) k
+      → Reached piece s i (slotOf r′ ws) k
+  line-field r r′ ws j k x e y = passed-join slotStep (λ b. not (endsLine b)) piece s (slotOf r ws) (slotOf r′ ws) i j k x (record {
+    span = span-as (λ b. not (ends space b)) piece (λ b. not (endsLine b)) clear-space j k (y .place .span);
+    steps =
+        ap (λ (n : ℕ). slot n (r′ .field) ws) e
+        ∙ ap (λ (g : Field). slot (r .at) g ws) (y .steps)
+        ∙ sym (field-steps (r .at) (r .field) ws (part piece j k) (y .place .span .all));
+  })
+
+  pub line-space : (m m′ : Slot) (j : ℕ) → Reached piece s i m j → j < length piece → So (ends space (getD piece j 0)) → (getD piece j 0 ≡ newline → ⊥) → m′ ≡ endField m
+      → Reached piece s i m′ (j + 1)
+  unfolding slotStep
+  line-space m m′ j x l h n e =
+      passed-more slotStep (λ b. not (endsLine b)) piece s m m′ i j x l
+      (deny (eqb (getD piece j 0) newline) (ne-eqb (getD piece j 0) newline n))
+      (e ∙ sym (rw (ends-space (getD piece j 0) n h)))
+
+  pub line-taken : (s′ : Slot) (j : ℕ) → Reached piece s i s′ j → (j < length piece → getD piece j 0 ≡ newline) → Taken slotStep endsLine piece s i s′ j
+  line-taken s′ j x h = record { place = record { span = x .span; here = λ l. eq-eqb (getD piece j 0) newline (h l) }; steps = x .steps }
