@@ -136,8 +136,9 @@ fn goal_table(slots: &[Row], lines: Option<&[Lines]>) -> String {
 const PARTS: &str = "\
 The library has no calls for the parts, so they are told by calls that stop early, from the same states. *Fit check*: a call refused with 5,\n\
 the arrivals being a word short; it has looked at the sizes and at every record. *Other checks*: a call refused with 6 at the last input, less\n\
-that; the count of live cells for number 8 is not in it, since only a fuller table would be refused there. *Exhale's passes*: not the proved\n\
-code but a plain Rust loop of the same shape, a pass over the table for each output, on the tables as the phases leave them; an estimate.\n\
+that; the count of live cells for number 8 is not in it, since only a fuller table would be refused there. *Exhale's passes*: from\n\
+the ready cells as the phases leave them, with none waiting or coming, what a slot costs more than one with the same records on a switch of one\n\
+port, by 16 / 15: each output but the first costs a pass over the table more, and next to nothing else.\n\
 *The rest* is what remains of the whole: the count of live cells, the inhale, the reading and the picking. A part below zero is lost in the noise.\n\n";
 
 /// Of the large switch at speedup 3.
@@ -158,13 +159,13 @@ fn part_table(slots: &[Row]) -> String {
         .filter(|(s, _)| (s.ports, s.speedup) == (16, 3));
     let rows = large.map(|(s, t)| {
         let (fit, checks) = (t.fit.median, t.checks.median);
-        let (without, fastest) = (t.without_passes(), t.fastest.median);
+        let (without, fastest) = (t.without_passes(s.ports), t.fastest.median);
         format!(
             "{} | {fit:.0} | {:.0} | {:.0} | {:.0} | {:.0} | {without:.0} | {fastest:.0} | {:.2}",
             s.live,
             checks - fit,
             without - checks,
-            t.passes.median,
+            t.passes(s.ports),
             t.proved.median,
             without / fastest
         )

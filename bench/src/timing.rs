@@ -3,7 +3,7 @@
 use std::hint::black_box;
 use std::time::Instant;
 
-use bench::checks::{Numbers, MOST_PORTS};
+use bench::checks::{Numbers, MOST_PORTS, WAITING, WIDTH};
 use bench::states::{states, Setting, State, STATES};
 use bench::{proved, ranked, scans, Call, SlotFn};
 
@@ -39,22 +39,37 @@ pub struct Times {
     /// The proved slot up to a refusal with 5, and with 6 at the last input.
     pub fit: Time,
     pub checks: Time,
-    /// The exhale's passes, in plain Rust.
-    pub passes: Time,
+    /// The proved slot where cells leave and nothing else happens, on the switch and on one of one port.
+    pub leaving: Time,
+    pub leaving_by_one: Time,
     /// One read of the table.
     pub read: Time,
 }
 
 impl Times {
-    pub fn without_passes(&self) -> f64 {
-        self.proved.median - self.passes.median
+    /// The exhale's passes, one for each of so many outputs.
+    pub fn passes(&self, ports: u32) -> f64 {
+        let ports = f64::from(ports);
+        (self.leaving.median - self.leaving_by_one.median) * ports / (ports - 1.0)
+    }
+
+    pub fn without_passes(&self, ports: u32) -> f64 {
+        self.proved.median - self.passes(ports)
     }
 }
 
-/// What is timed: from which states, and the number that it gives.
+/// From which states a function is timed.
+#[derive(Clone, Copy)]
+enum From {
+    States,
+    Leaving,
+    LeavingByOne,
+}
+
+/// What is timed, and the number that it gives.
 struct Timed {
     slot: SlotFn,
-    before_exhale: bool,
+    from: From,
     number: u32,
 }
 
@@ -62,23 +77,28 @@ impl Timed {
     const fn slot(slot: SlotFn, number: u32) -> Timed {
         Timed {
             slot,
-            before_exhale: false,
+            from: From::States,
             number,
+        }
+    }
+
+    const fn from(from: From) -> Timed {
+        Timed {
+            slot: proved,
+            from,
+            number: 0,
         }
     }
 }
 
-const TIMED: [Timed; 7] = [
+const TIMED: [Timed; 8] = [
     Timed::slot(proved, 0),
     Timed::slot(scans::slot, 0),
     Timed::slot(ranked::slot, 0),
     Timed::slot(|call| proved(one_word_short(call)), 5),
     Timed::slot(|call| proved(no_such_output(call)), 6),
-    Timed {
-        slot: passes,
-        before_exhale: true,
-        number: 0,
-    },
+    Timed::from(From::Leaving),
+    Timed::from(From::LeavingByOne),
     Timed::slot(read, 0),
 ];
 
@@ -99,11 +119,6 @@ fn no_such_output(call: Call) -> Call {
     Call { arrivals, ..call }
 }
 
-fn passes(call: Call) -> u32 {
-    scans::exhale(call.table, call.exhaled);
-    0
-}
-
 fn read(call: Call) -> u32 {
     let words = call.table.iter();
     black_box(words.fold(0u32, |sum, &word| sum.wrapping_add(word)));
@@ -120,19 +135,20 @@ pub fn time(settings: &[Setting]) -> Vec<Times> {
 
 /// The states of one setting, and what was measured on them so far.
 struct Clock {
-    states: Vec<State>,
-    before_exhale: Vec<State>,
-    work: Vec<State>,
+    states: Batch,
+    leaving: Batch,
+    leaving_by_one: Batch,
     samples: [Vec<f64>; TIMED.len()],
 }
 
 impl Clock {
     fn of(setting: Setting) -> Clock {
         let states = states(setting);
+        let leaving: Vec<State> = states.iter().cloned().map(leaving).collect();
         Clock {
-            work: states.clone(),
-            before_exhale: states.iter().cloned().map(before_exhale).collect(),
-            states,
+            leaving_by_one: Batch::of(leaving.iter().cloned().map(by_one_port).collect()),
+            leaving: Batch::of(leaving),
+            states: Batch::of(states),
             samples: Default::default(),
         }
     }
@@ -140,47 +156,80 @@ impl Clock {
     fn pass(&mut self) {
         for _ in 0..ROUNDS {
             for (timed, samples) in TIMED.iter().zip(&mut self.samples) {
-                let from = if timed.before_exhale {
-                    &self.before_exhale
-                } else {
-                    &self.states
+                let batch = match timed.from {
+                    From::States => &mut self.states,
+                    From::Leaving => &mut self.leaving,
+                    From::LeavingByOne => &mut self.leaving_by_one,
                 };
-                restore(&mut self.work, from);
-                samples.push(nanoseconds(timed, &mut self.work));
+                samples.push(nanoseconds(timed, batch.restored()));
             }
         }
     }
 
     fn times(self) -> Times {
-        let [proved, scans, fastest, fit, checks, passes, read] = self.samples.map(Time::of);
+        let [proved, scans, fastest, fit, checks, leaving, leaving_by_one, read] =
+            self.samples.map(Time::of);
         Times {
             proved,
             scans,
             fastest,
             fit,
             checks,
-            passes,
+            leaving,
+            leaving_by_one,
             read,
         }
     }
 }
 
-/// The state as the phases of its slot leave it.
-fn before_exhale(mut s: State) -> State {
-    scans::up_to_exhale(
-        Numbers::of(&s.numbers),
-        &mut s.table,
-        &s.arrivals,
-        &mut s.matches,
-    );
+/// In the next slot, the ready cells as the phases of the state's slot leave them, and nothing else: no cell waits and
+/// none comes.
+fn leaving(mut s: State) -> State {
+    let w = Numbers::of(&s.numbers);
+    scans::up_to_exhale(w, &mut s.table, &s.arrivals, &mut s.matches);
+    let cells = s.table.chunks_exact_mut(WIDTH);
+    for cell in cells.filter(|cell| cell[0] == WAITING) {
+        cell.fill(0);
+    }
+    s.arrivals.fill(0);
+    s.numbers[2] += 1;
     s
 }
 
-/// Outside the timed part; leaves the tables in the cache for every function alike.
-fn restore(work: &mut [State], states: &[State]) {
-    for (to, from) in work.iter_mut().zip(states) {
-        to.numbers = from.numbers;
-        to.table.copy_from_slice(&from.table);
+/// The same cells in the same records, all from one input to one output, on a switch of one port.
+fn by_one_port(mut s: State) -> State {
+    let cells = s.table.chunks_exact_mut(WIDTH);
+    for (cell, slot) in cells.filter(|cell| cell[0] != 0).zip(0..) {
+        [cell[1], cell[2], cell[3]] = [0, 0, slot];
+    }
+    s.numbers[0] = 1;
+    s.arrivals.truncate(2);
+    s.matches.truncate(s.numbers[1] as usize);
+    s.exhaled.truncate(4);
+    s
+}
+
+/// States, and a copy of each to work on.
+struct Batch {
+    from: Vec<State>,
+    work: Vec<State>,
+}
+
+impl Batch {
+    fn of(from: Vec<State>) -> Batch {
+        Batch {
+            work: from.clone(),
+            from,
+        }
+    }
+
+    /// Outside the timed part; leaves the tables in the cache for every function alike.
+    fn restored(&mut self) -> &mut [State] {
+        for (to, from) in self.work.iter_mut().zip(&self.from) {
+            to.numbers = from.numbers;
+            to.table.copy_from_slice(&from.table);
+        }
+        &mut self.work
     }
 }
 
