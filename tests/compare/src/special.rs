@@ -1,6 +1,6 @@
 //! Calls that go every way through the library's slot: long queues from one input or for one output, equal
-//! readings, blocks of free records, marks met twice. Random calls go some of these ways seldom, or with few
-//! cells only.
+//! readings, blocks of free records, tables of a stretch and a record more or less, marks met twice. Random calls
+//! go some of these ways seldom, or with few cells only.
 
 use std::cmp::Reverse;
 
@@ -15,6 +15,8 @@ const SEED: u64 = 1_024;
 const PORTS: [u32; 5] = [1, 2, 4, 15, 16];
 const SPEEDUPS: [u32; 3] = [1, 3, 8];
 const SHORT: [usize; 6] = [1, 7, 8, 9, 63, 64];
+/// Around the length of the stretches in which the library passes over the table.
+const STRETCHES: [usize; 5] = [255, 256, 257, 264, 513];
 const LONG: [usize; 2] = [1_023, 1_024];
 /// Short tables cost little, so they have more variants.
 const OF_EACH_SHORT: usize = 4;
@@ -31,7 +33,7 @@ pub fn compare() {
     for ports in PORTS {
         for speedup in SPEEDUPS {
             let short = SHORT.repeat(OF_EACH_SHORT);
-            for records in short.into_iter().chain(LONG) {
+            for records in short.into_iter().chain(STRETCHES).chain(LONG) {
                 let mut cases = Cases {
                     random: &mut random,
                     tally: &mut tally,
