@@ -1,11 +1,11 @@
 -- Numbers noted down in one pass, each behind the last one that stays. The first m words of the list are numbers below n, in rising order, and of
 -- every number below n that is not among them it is known that it may be left out.
 -- Assumes nothing.
-use mathlib.Core.Path.{_≡_, refl, sym, ap}
+use mathlib.Core.Path.{_≡_, refl, ap}
 use mathlib.Core.Logic.{⊎-elim}
 use mathlib.Core.Bool.{Bool, true, false}
 use mathlib.Core.List.{List}
-use Prim.Native.Nat.{ℕ, zero, suc, _+_, _-_, _≤_, _<_}
+use Prim.Native.Nat.{ℕ, zero, suc, _+_, _-_, _*_, _/_, _%_, _≤_, _<_}
 use native.Mathlib.Omega.{arith}
 use native.Mathlib.Numerals.{add-one}
 use native.Mathlib.Nat.{add-zero}
@@ -102,3 +102,20 @@ module _ {out : ℕ → Type 0} {ws : List ℕ} {m n : ℕ} (d : Noted out ws m 
     to-end p =
         let e : past ws m + (n - past ws m) ≡ n = omega (arith, d .reach) in
         rw e at (walk-on P (past ws m) (n - past ws m) (λ x a b. keeps x (omega (arith, d .reach)) (d .rest x a (omega (arith, d .reach)))) p)
+
+-- Blocks of eight numbers, noted where one of them must not be left out -------------------------------
+
+-- each number of block b may be left out
+abbrev pub Eight : (ℕ → Type 0) → ℕ → Type 0
+Eight out b = (j : ℕ) → j < 8 → out (b * 8 + j)
+
+module _ (out : ℕ → Type 0) {blocks : List ℕ} {m n : ℕ} (d : Noted (Eight out) blocks m n) where
+  in-block : (x : ℕ) → Eight out (x / 8) → out x
+  in-block x h = let e : x / 8 * 8 + x % 8 ≡ x = omega arith in rw e at (h (x % 8) (omega arith))
+
+  -- between two blocks noted, and behind the last one
+  pub eights-between : (j : ℕ) → j < m → (x : ℕ) → past blocks j * 8 ≤ x → x < getD blocks j 0 * 8 → out x
+  eights-between j l x a b = in-block x (d .gaps j l (x / 8) (omega arith) (omega arith))
+
+  pub eights-behind : (x : ℕ) → past blocks m * 8 ≤ x → x < n * 8 → out x
+  eights-behind x a b = in-block x (d .rest (x / 8) (omega arith) (omega arith))

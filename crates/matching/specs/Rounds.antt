@@ -23,7 +23,7 @@ use Rattle.ports.specs.PortLaws.{has-none, none-inside, removed-part, removed-o
 use Rattle.rules.specs.declared.Cell.{Cell}
 use Rattle.rules.specs.Cells.{free, placed, nth, outputOf, isWaiting, older, before, readingFor}
 use Rattle.ideal.specs.Cells.{waiting→, older-ranks, before-ranks}
-use Rattle.queues.specs.Queues.{pair, named, named-name, isFound, headWord, senders, wanted, waitsFor, waits→, →waits, headBelow, headOf, Ports, All, Queues}
+use Rattle.queues.specs.Queues.{named, named-name, isFound, headWord, senders, wanted, waitsFor, waits→, →waits, headBelow, headOf, Ports, All, Queues}
 use Rattle.table.specs.Table.{olderAt}
 use Rattle.queues.specs.Heads.{head-below}
 use Rattle.matching.specs.declared.Taken.{Taken}

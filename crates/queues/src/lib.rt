@@ -166,7 +166,7 @@ pub fn line_up(table: &[u32], queues: &mut [u16])
     let mut k = 0;
     'stretches: while k < n {
         let end = table::noting::stretch_end(k, n);
-        let m = table::noting::note(table, k, end, 1, &mut list);
+        let m = table::noting::note(table, k, end, table::noting::WAITING, &mut list);
         let mut j = 0;
         'noted: while j < m {
             join(table, queues, k + (list[j] as usize));

@@ -1,23 +1,22 @@
 -- Blocks of eight free records, which the check of a table passes over: all their words are 0, so their or is. And stray words, of records whose
 -- place is 0 though they are not blank.
 -- Assumes nothing.
-use Prim.Native.Nat.{ℕ, _+_, _-_, _*_, _/_, _%_, _≤_, _<_}
+use Prim.Native.Nat.{ℕ, _+_, _-_, _*_, _≤_, _<_}
 use mathlib.Core.Path.{_≡_, refl, sym, ap, _∙_}
 use mathlib.Core.Logic.{⊎-elim}
-use mathlib.Core.Bool.{Bool, So, not, _&&_}
+use mathlib.Core.Bool.{So, not, _&&_}
 use mathlib.Core.List.{List}
 use native.Mathlib.Omega.{arith}
-use native.Mathlib.Numerals.{add-one}
 use lib.Bits.{bitOr, or-add-and, and-le-l, and-le-r, or-zero-l, or-zero-r}
 use lib.Dec.{eqb, ltb}
 use lib.ListN.{length, getD, take, drop, length-drop}
 use lib.Seq.{getD-take, getD-drop, length-take-le}
 use borrow.Author.Tests.{eqb-true, eqb-false, eq-eqb, ltb-true, ltb-false}
 use Rattle.laws.specs.Tests.{No, both, passes, to-no, to-so, cond-true}
-use Rattle.laws.specs.Noted.{Noted, past}
+use Rattle.laws.specs.Noted.{Noted, Eight, past, eights-between, eights-behind}
 use Rattle.rules.specs.declared.Cell.{Cell}
 use Rattle.rules.specs.declared.Slot.{Slot}
-use Rattle.rules.specs.Cells.{free, nth, isFree, isLive, isBlank, isSound, width, records, cellAt, cellsOf}
+use Rattle.rules.specs.Cells.{free, nth, isFree, isLive, isBlank, isSound, width, records, cellsOf}
 use Rattle.ideal.specs.Words.{nth-cellsOf, in-words}
 
 -- an or that is 0
@@ -34,9 +33,13 @@ free-not-live = refl
 
 -- Blocks ----------------------------------------------------------------------------------------
 
--- the eight records of block b, of a stretch that begins at record k, are free
+-- record x of the stretch that begins at record k is free
+abbrev Free : List ℕ → ℕ → ℕ → Type 0
+Free ws k x = nth (cellsOf ws) (k + x) ≡ free
+
+-- and so are the eight records of its block b
 abbrev pub BlockFree : List ℕ → ℕ → ℕ → Type 0
-BlockFree ws k b = (j : ℕ) → j < 8 → nth (cellsOf ws) (k + (b * 8 + j)) ≡ free
+BlockFree ws k = Eight (Free ws k)
 
 -- by the forty words from record a on
 module _ (ws : List ℕ) (a : ℕ) (l : a + 8 ≤ records ws) (z : (i : ℕ) → i < 40 → _≡_ {A = ℕ} (getD ws (a * width + i) 0) 0) where
@@ -67,17 +70,16 @@ block-free ws k b r l o q j h = let e : k + b * 8 + j ≡ k + (b * 8 + j) = omeg
     zeros : (i : ℕ) → i < 40 → _≡_ {A = ℕ} (getD ws (a * width + i) 0) 0
     zeros i m = sym (getD-take (a * width + 40 - a * width) (drop (a * width) ws) i 0 (omega arith) ∙ getD-drop (a * width) ws i 0) ∙ o .none (eqb-true r 0 (to-so (eqb r 0) q)) i (rw long (omega arith))
 
--- in a block that may be left out, and so in all of them between two that may not
-module _ (ws : List ℕ) (k : ℕ) where
-  in-block : (x : ℕ) → k ≤ x → BlockFree ws k ((x - k) / 8) → nth (cellsOf ws) x ≡ free
-  in-block x l h = let e : k + ((x - k) / 8 * 8 + (x - k) % 8) ≡ x = omega arith in rw e at (h ((x - k) % 8) (omega arith))
+-- the records between two touched blocks, and those behind the last one
+module _ (ws : List ℕ) (k : ℕ) {blocks : List ℕ} {m n : ℕ} (d : Noted (BlockFree ws k) blocks m n) where
+  from-start : (x : ℕ) → k ≤ x → Free ws k (x - k) → nth (cellsOf ws) x ≡ free
+  from-start x l h = let e : k + (x - k) ≡ x = omega arith in rw e at h
 
-  module _ {blocks : List ℕ} {m n : ℕ} (d : Noted (BlockFree ws k) blocks m n) where
-    pub free-between : (j : ℕ) → j < m → (x : ℕ) → k + past blocks j * 8 ≤ x → x < k + getD blocks j 0 * 8 → nth (cellsOf ws) x ≡ free
-    free-between j l x a b = in-block x (omega arith) (d .gaps j l ((x - k) / 8) (omega arith) (omega arith))
+  pub free-between : (j : ℕ) → j < m → (x : ℕ) → k + past blocks j * 8 ≤ x → x < k + getD blocks j 0 * 8 → nth (cellsOf ws) x ≡ free
+  free-between j l x a b = from-start x (omega arith) (eights-between (Free ws k) d j l (x - k) (omega arith) (omega arith))
 
-    pub free-behind : (x : ℕ) → k + past blocks m * 8 ≤ x → x < k + n * 8 → nth (cellsOf ws) x ≡ free
-    free-behind x a b = in-block x (omega arith) (d .rest ((x - k) / 8) (omega arith) (omega arith))
+  pub free-behind : (x : ℕ) → k + past blocks m * 8 ≤ x → x < k + n * 8 → nth (cellsOf ws) x ≡ free
+  free-behind x a b = from-start x (omega arith) (eights-behind (Free ws k) d (x - k) (omega arith) (omega arith))
 
 -- Stray words --------------------------------------------------------------------------------------
 

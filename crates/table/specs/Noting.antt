@@ -1,6 +1,6 @@
 -- What may be left out of a pass over a stretch of the table: records whose places have none of the bits that are asked for, and whole blocks of them.
 -- Assumes nothing.
-use Prim.Native.Nat.{ℕ, _+_, _-_, _*_, _/_, _%_, _≤_, _<_}
+use Prim.Native.Nat.{ℕ, _+_, _-_, _*_, _≤_, _<_}
 use mathlib.Core.Path.{_≡_, sym, ap, _∙_}
 use mathlib.Core.Bool.{not}
 use mathlib.Core.List.{List}
@@ -11,7 +11,7 @@ use lib.Bits.{bitAnd, and-self, and-zero-l}
 use lib.Dec.{eqb}
 use lib.ListN.{getD}
 use Rattle.laws.specs.Tests.{No, to-so}
-use Rattle.laws.specs.Noted.{Noted, past, to-noted, to-end}
+use Rattle.laws.specs.Noted.{Noted, Eight, past, to-noted, to-end}
 use Rattle.rules.specs.declared.Cell.{Cell}
 use Rattle.rules.specs.Cells.{nth, width, records, cellsOf}
 use Rattle.ideal.specs.Words.{nth-cellsOf}
@@ -23,7 +23,7 @@ Lacks ws k bits x = bitAnd (nth (cellsOf ws) (k + x) .place) bits ≡ 0
 
 -- nor has one of the eight records of its block b
 abbrev pub BlockLacks : List ℕ → ℕ → ℕ → ℕ → Type 0
-BlockLacks ws k bits b = (j : ℕ) → j < 8 → Lacks ws k bits (b * 8 + j)
+BlockLacks ws k bits = Eight (Lacks ws k bits)
 
 module _ (ws : List ℕ) (k bits : ℕ) where
   -- by the word that was read
@@ -35,17 +35,6 @@ module _ (ws : List ℕ) (k bits : ℕ) where
   block-lacks b r h q j l =
       let e : k + b * 8 + j ≡ k + (b * 8 + j) = omega arith in
       rw e at (h (eqb-true r 0 (to-so (eqb r 0) q)) j l)
-
-  -- in a block that may be left out, and so in all of them between two that may not
-  in-block : (x : ℕ) → BlockLacks ws k bits (x / 8) → Lacks ws k bits x
-  in-block x h = let e : x / 8 * 8 + x % 8 ≡ x = omega arith in rw e at (h (x % 8) (omega arith))
-
-  module _ {blocks : List ℕ} {m n : ℕ} (d : Noted (BlockLacks ws k bits) blocks m n) where
-    pub blocks-between : (j : ℕ) → j < m → (x : ℕ) → past blocks j * 8 ≤ x → x < getD blocks j 0 * 8 → Lacks ws k bits x
-    blocks-between j l x a b = in-block x (d .gaps j l (x / 8) (omega arith) (omega arith))
-
-    pub blocks-behind : (x : ℕ) → past blocks m * 8 ≤ x → x < n * 8 → Lacks ws k bits x
-    blocks-behind x a b = in-block x (d .rest (x / 8) (omega arith) (omega arith))
 
 -- a free record's place lacks them all
 pub free-lacks : (ws : List ℕ) (k bits b : ℕ) → BlockFree ws k b → BlockLacks ws k bits b

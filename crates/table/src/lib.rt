@@ -1,5 +1,6 @@
 // The cell table as it is lent: flat words, five a record. What stands in a record, how it is changed, and what the scans find.
-// Only `record_count`, `is_whole`, `clear`, `cell_at`, `put_cell` and `set_place` know of words; the scans go by records.
+// Only `record_count`, `is_whole`, `clear`, `cell_at`, `put_cell`, `set_place`, the search for stray words and `noting` know of words; the scans go by
+// records, and look only at those that `noting` wrote down.
 use laws::Found;
 use rules::Cell;
 use rules::Input;
@@ -203,7 +204,7 @@ pub fn oldest_ready(table: &[u32], o: Output) -> Found
     let mut k = 0;
     'stretches: while k < n {
         let end = noting::stretch_end(k, n);
-        let m = noting::note(table, k, end, 2, &mut list);
+        let m = noting::note(table, k, end, noting::READY, &mut list);
         let mut j = 0;
         'noted: while j < m {
             found = older_of(table, o, found, k + (list[j] as usize));
@@ -248,16 +249,12 @@ fn one_if_counted(c: Cell) -> u32
     1
 }
 
-// One more for the cell's output, where the cell is ready. Free records are left at once; waiting and ready cells are mixed in the table, and no
-// branch tells them apart.
+// One more for the cell's output, where the cell is ready.
 fn bump(counts: &mut [u32; 16], c: Cell)
     requires { ⌜ length (now counts) ≡ 16 ⌝ }
     requires { ⌜ getD (now counts) (c .output .0 % 16) 0 < 1024 ⌝ }
     ensures { λ _. ⌜ now (counts .exit) ≡ bumped (now (counts .entry)) c ⌝ }
 {
-    if c.place == 0 {
-        return;
-    }
     let at = (c.output.0 % 16) as usize;
     counts[at] = counts[at] + one_if_counted(c);
 }
@@ -272,7 +269,7 @@ pub fn read(table: &[u32]) -> Reading
     let mut k = 0;
     'stretches: while k < n {
         let end = noting::stretch_end(k, n);
-        let m = noting::note(table, k, end, 2, &mut list);
+        let m = noting::note(table, k, end, noting::READY, &mut list);
         let mut j = 0;
         'noted: while j < m {
             let c = cell_at(table, k + (list[j] as usize));
@@ -474,7 +471,7 @@ fn note_live(table: &[u32], k: usize, end: usize, list: &mut [u8; 256]) -> Notes
     let mut blocks = [0u8; 32];
     let count = note_touched(table, k, size / 8, &mut blocks);
     let strays = strays_within(table, k, size, &blocks, count);
-    let live = noting::note_within(table, k, size, u32::MAX, &blocks, count, list);
+    let live = noting::note_within(table, k, size, noting::LIVE, &blocks, count, list);
     Notes { live, strays }
 }
 

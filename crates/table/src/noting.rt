@@ -1,7 +1,7 @@
 // The records with a place, noted down in one pass. No branch hangs on what stands in a record: one that goes either way costs more than a look
 // at eight records. So each number is written behind the last one that stays, and stays or is written over by the next.
 // A stretch of at most 256 records is looked at in two steps: which of its blocks of eight have such a record at all, then which records of those
-// blocks. Places are told by bits: 1 for waiting cells, 2 for ready ones, all for live ones; what is noted is looked at again by whoever asked.
+// blocks. Places are told by their bits; what is noted is looked at again by whoever asked.
 ghost use mathlib.Core.Path.{_≡_};
 ghost use mathlib.Core.Bool.{not};
 ghost use Prim.Native.Nat.{ℕ, _+_, _-_, _*_, _/_, _<_, _≤_};
@@ -11,6 +11,13 @@ ghost use Rattle.laws.specs.Count.{bit};
 ghost use Rattle.laws.specs.Noted.{Noted};
 ghost use Rattle.rules.specs.Cells.{records};
 ghost use Rattle.table.specs.Noting.{Lacks, BlockLacks};
+
+// The bits of the places: of waiting cells, of ready ones and of all live ones.
+pub const WAITING: u32 = 1;
+
+pub const READY: u32 = 2;
+
+pub const LIVE: u32 = 4_294_967_295;
 
 // Where the stretch that begins at record k ends: 256 on, or with the last record.
 pub fn stretch_end(k: usize, n: usize) -> usize

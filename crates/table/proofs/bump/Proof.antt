@@ -1,13 +1,10 @@
--- A free record changes nothing; another is counted by 0 or 1.
+-- The cell is counted by 0 or 1.
 use native.Mathlib.Omega.{arith}
 use Rattle.laws.specs.Count.{bit-le}
-use Rattle.table.specs.Reading.{isCounted, not-ready, bump-one}
+use Rattle.table.specs.Reading.{isCounted, bump-one}
 use borrow.Author.Needs.{needs}
 use Rattle.table.proofs.bump.Statement.{statement}
 use Rattle.table.proofs.bump.Tie as tie
-
-returns : tie.Need-returns
-returns c = not-ready _ (c .before .before .pre .0) _ (λ r. omega (arith, r, c .if1 .taken))
 
 cast-at : tie.Need-cast-at
 cast-at c = search needs
@@ -22,7 +19,7 @@ one-if-counted-requires : tie.Need-one-if-counted-requires
 one-if-counted-requires c κs = search needs
 
 add-counts : tie.Need-add-counts
-add-counts c = record { fits = omega (arith, c .one-if-counted .ensures, bit-le (isCounted (c .before .before .before .before .before .args .c)), c .before .before .before .before .before .pre .1) }
+add-counts c = record { fits = omega (arith, c .one-if-counted .ensures, bit-le (isCounted (c .before .before .before .args .c)), c .before .before .before .pre .1) }
 
 mul-counts-2 : tie.Need-mul-counts-2
 mul-counts-2 c = search needs
@@ -30,14 +27,13 @@ mul-counts-2 c = search needs
 element-write-counts : tie.Need-element-write-counts
 element-write-counts c = search needs
 
-returns-2 : tie.Need-returns-2
-returns-2 c = rw (c .one-if-counted .ensures) (bump-one _ (c .before .before .before .before .before .pre .0) _)
+returns : tie.Need-returns
+returns c = rw (c .one-if-counted .ensures) (bump-one _ (c .before .before .before .pre .0) _)
 
 pub bump-spec : {M : Type 1} → statement M
 bump-spec =
     tie.close
     (tie.spec
-    returns
     cast-at
     mul-counts
     element-copy-out-counts
@@ -45,4 +41,4 @@ bump-spec =
     add-counts
     mul-counts-2
     element-write-counts
-    returns-2)
+    returns)

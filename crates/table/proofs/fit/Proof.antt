@@ -1,6 +1,6 @@
 -- Every record below k is sound and alone, and is marked if it is live.
-use Prim.Native.Nat.{ℕ, _≤_, _-_}
-use mathlib.Core.Path.{_≡_, refl, sym, _∙_}
+use Prim.Native.Nat.{_≤_, _-_}
+use mathlib.Core.Path.{_≡_, refl, sym}
 use native.Mathlib.Omega.{arith}
 use borrow.Author.Tests.{not-true, not-false}
 use lib.ListN.{length}

@@ -1,11 +1,10 @@
 -- The records below the next one noted are sound and alone: those that are not noted are free, where no word strays.
-use Prim.Native.Nat.{ℕ, _+_, _≤_, _<_, _-_}
+use Prim.Native.Nat.{_+_, _≤_, _-_}
 use mathlib.Core.Path.{_≡_, refl, sym, ap, _∙_}
 use mathlib.Core.Bool.{false≢true}
 use native.Mathlib.Omega.{arith}
 use native.Mathlib.Nat.{add-zero}
 use borrow.Author.Tests.{not-true, not-false}
-use lib.ListN.{length, getD}
 use denote.Ref.{now}
 use Rattle.laws.specs.Tests.{join, fails-left, fails-right}
 use Rattle.laws.specs.Count.{every-more}

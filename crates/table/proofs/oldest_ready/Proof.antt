@@ -1,13 +1,13 @@
 -- What was found is the least of the records below the next one noted: those that are not noted are not ready.
-use Prim.Native.Nat.{ℕ, _+_, _≤_, _-_}
+use Prim.Native.Nat.{_+_, _≤_, _-_}
 use mathlib.Core.Path.{_≡_, refl, sym}
 use native.Mathlib.Omega.{arith}
 use native.Mathlib.Nat.{add-zero}
 use lib.ListN.{length}
 use denote.Ref.{now}
-use Rattle.laws.specs.Least.{least, least-zero, least-more, least-below}
+use Rattle.laws.specs.Least.{least-zero, least-more, least-below}
 use Rattle.laws.specs.Noted.{past}
-use Rattle.rules.specs.Cells.{nth, cellsOf, isReadyFor, older}
+use Rattle.rules.specs.Cells.{cellsOf}
 use Rattle.rules.specs.Phases.{oldestReady}
 use Rattle.ideal.specs.Words.{length-cellsOf}
 use Rattle.table.specs.Noting.{past-more, noted-inside}

@@ -1,5 +1,5 @@
 -- The counts of the records below the next one noted: those that are not noted are not ready.
-use Prim.Native.Nat.{ℕ, _+_, _≤_, _-_, _%_}
+use Prim.Native.Nat.{_+_, _≤_, _-_, _%_}
 use mathlib.Core.Path.{_≡_, refl, ap, ap₂, _∙_}
 use native.Mathlib.Omega.{arith}
 use native.Mathlib.Nat.{add-zero}

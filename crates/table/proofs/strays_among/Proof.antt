@@ -2,9 +2,7 @@
 use Prim.Native.Nat.{_≤_, _-_}
 use mathlib.Core.Path.{_≡_}
 use native.Mathlib.Omega.{arith}
-use denote.Ref.{now}
 use Rattle.rules.specs.Cells.{cellsOf}
-use Rattle.ideal.specs.Words.{in-words}
 use Rattle.table.specs.Blocks.{Strays, strays-none, strays-join, strays-one}
 use Rattle.table.proofs.strays_among.Statement.{statement}
 use Rattle.table.proofs.strays_among.Tie as tie

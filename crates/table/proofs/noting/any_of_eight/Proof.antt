@@ -1,5 +1,5 @@
 -- Where what was gathered so far is 0, the places below j have none of the bits.
-use Prim.Native.Nat.{ℕ, _+_, _≤_, _<_, _-_}
+use Prim.Native.Nat.{ℕ, _≤_, _<_, _-_}
 use mathlib.Core.Path.{_≡_}
 use native.Mathlib.Omega.{arith}
 use native.Mathlib.Numerals.{add-one}

@@ -1,12 +1,12 @@
 -- What is noted is noted of the records up to the block that was looked into last; those of the blocks between lack the bits.
-use Prim.Native.Nat.{ℕ, _+_, _*_, _/_, _≤_, _<_, _-_}
+use Prim.Native.Nat.{_+_, _*_, _≤_, _-_}
 use mathlib.Core.Path.{_≡_}
 use native.Mathlib.Omega.{arith}
 use native.Mathlib.Numerals.{add-one}
 use lib.ListN.{length, getD}
 use denote.Ref.{now}
-use Rattle.laws.specs.Noted.{Noted, past, noted-none, noted-skip}
-use Rattle.table.specs.Noting.{Lacks, blocks-between, blocks-behind}
+use Rattle.laws.specs.Noted.{Noted, past, noted-none, noted-skip, eights-between, eights-behind}
+use Rattle.table.specs.Noting.{Lacks}
 use Rattle.table.proofs.noting.note_within.Statement.{statement}
 use Rattle.table.proofs.noting.note_within.Tie as tie
 
@@ -45,7 +45,7 @@ note-records-requires c κs =
     let p = c .before .before .before .before .before .before .pre in
     let i = c .before .before .before .loop in
     let r = p .1 .1 .rising (i .j) (c .before .before .loop-test .taken) in
-    ((omega arith, omega (arith, r .1, p .0 .0), omega (arith, r .1, p .0 .1)), (i .inv .1, noted-skip (i .inv .2) _ (omega (arith, r .0)) (blocks-between _ _ _ (p .1 .1) (i .j) (c .before .before .loop-test .taken))))
+    ((omega arith, omega (arith, r .1, p .0 .0), omega (arith, r .1, p .0 .1)), (i .inv .1, noted-skip (i .inv .2) _ (omega (arith, r .0)) (eights-between _ (p .1 .1) (i .j) (c .before .before .loop-test .taken))))
 
 add-j : tie.Need-add-j Inv-loop μ-loop
 add-j c = omega arith
@@ -70,7 +70,7 @@ note-records-requires-2 c κs =
     let a = c .before .before .before .before .before .args in
     let e : i .j ≡ a .count = omega (arith, i .inv .0, c .before .loop-test .left) in
     let d = p .1 .1 in
-    ((omega arith, p .0 .0, p .0 .1), (i .inv .1, noted-skip (rw e at (i .inv .2)) _ (omega (arith, d .reach)) (blocks-behind _ _ _ d)))
+    ((omega arith, p .0 .0, p .0 .1), (i .inv .1, noted-skip (rw e at (i .inv .2)) _ (omega (arith, d .reach)) (eights-behind _ d)))
 
 returns : tie.Need-returns Inv-loop μ-loop
 returns c = c .note-records2 .ensures
