@@ -27,19 +27,21 @@ pub fn written(slots: &[Row], growth: &[Row], lines: Option<&[Lines]>) -> String
 const REMARKS: &str = "\
 ## What is in the way
 
-- With few live cells the passes over the table are most of a slot, and the proved slot makes four before the phases where the fastest makes one:\n  \
+- The exhale passes over the table once for each output, until that is one pass (document 02, L4). On the large switch that is half of a slot and more,\n  \
+and what the program at N 16 misses its goal by: sixteen passes look at 16,384 places, and the processor loads no more than two or three at once.
+- With few live cells the passes over the table are most of the rest, and the proved slot makes four before the phases where the fastest makes one:\n  \
 the fit check, the count of live cells, the reading and the lining up of the queues. Each is a function with a contract of its own, called by\n  \
-`switch`, which this left alone. Then come the rounds, whose branches go either way: which outputs can be served, which head is older.
-- The exhale passes over the table once for each output, until that is one pass (document 02, L4). That is most of a slot on the large switch,\n  \
-and what the program at N 16 misses its goal by.
-- The program reads and prints pieces of 64 KiB, but each byte of a slot's line is a step, and the step is a call: the work could be done a field.
+`switch`, which this left alone.
+- With many, the rounds and the comparisons of heads: which of two cells is older goes either way. The fastest sorts the waiting cells once.
 
 ## In the machine code
 
-The slot is one function of some nine hundred instructions with no call but memset and no division. Free ports are stepped through by tzcnt, a set less\n\
-another is a not and an and, the words of eight records are or-ed in vectors. What had cost most in the rounds was no branch: a struct that is\n\
-passed by value is copied where an element of it is read, so that each comparison of two cells copied the sixteen counts twice. Now a round reads\n\
-each wanted output's count once, in place, and cells are compared by age alone. What a phase has picked, 68 bytes, is still copied for each pick.
+The slot is one function of some fifteen hundred instructions, with no division and no call but of memset and, for blocks that have a record with\n\
+the place that is asked for, of `note_within`. What stands in a record decides no branch in the passes: the places of eight records are or-ed from\n\
+memory, one bit of that is added to how many blocks are noted, and the words of eight records are or-ed in vectors for the fit check. Free ports are\n\
+stepped through by tzcnt, a set less another is a not and an and. A struct that is passed by value is copied where an element of it is read: a phase\n\
+copies the sixteen counts once a round, and what it picked is lent and not copied any more. In the program a slot line costs a call, each field\n\
+one or two, and no byte one.
 ";
 
 fn head() -> String {

@@ -83,7 +83,7 @@ fn put_field(buf: &mut [u8], at: usize, number: u32, after: u8) -> usize
 }
 
 // How many digits there are is known first, so that each is set in its place, from the last one to the first.
-pub fn put_number(buf: &mut [u8], at: usize, number: u32) -> usize
+fn put_number(buf: &mut [u8], at: usize, number: u32) -> usize
     requires { ⌜ at + length (decimal number) ≤ length (now buf) ⌝ }
     ensures { λ r. ⌜ Put (now (buf .entry)) at (decimal number) (now (buf .exit)) r ⌝ }
 {
