@@ -70,7 +70,7 @@ note-records-requires-2 c κs =
     let a = c .before .before .before .before .before .args in
     let e : i .j ≡ a .count = omega (arith, i .inv .0, c .before .loop-test .left) in
     let d = p .1 .1 in
-    ((omega arith, p .0 .0, p .0 .1), (i .inv .1, noted-skip (rw e at (i .inv .2)) _ (omega (arith, d .reach)) (eights-behind _ d)))
+    ((omega arith, omega (arith, p .0 .0), omega (arith, p .0 .1)), (i .inv .1, noted-skip (rw e at (i .inv .2)) _ (omega (arith, d .reach)) (eights-behind _ d)))
 
 returns : tie.Need-returns Inv-loop μ-loop
 returns c = c .note-records2 .ensures
