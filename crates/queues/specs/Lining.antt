@@ -9,7 +9,7 @@ use lib.ListN.{length, getD}
 use Rattle.laws.specs.Noted.{Noted, past}
 use Rattle.rules.specs.declared.Cell.{Cell}
 use Rattle.rules.specs.Cells.{nth, cellsOf}
-use Rattle.table.specs.Noting.{Lacks, lacks-other, walk-to, walk-end}
+use Rattle.noting.specs.Noting.{Lacks, lacks-other, walk-to, walk-end}
 use Rattle.queues.specs.Queues.{queueWords, Chains, Heads, All, classOf}
 use Rattle.queues.specs.Chains.{chains-skip, class-other}
 use Rattle.queues.specs.Heads.{not-waiting, heads-skip}

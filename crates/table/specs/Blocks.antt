@@ -7,7 +7,7 @@ use mathlib.Core.Logic.{⊎-elim}
 use mathlib.Core.Bool.{So, not, _&&_}
 use mathlib.Core.List.{List}
 use native.Mathlib.Omega.{arith}
-use lib.Bits.{bitOr, or-add-and, and-le-l, and-le-r, or-zero-l, or-zero-r}
+use lib.Bits.{bitOr, or-zero-l, or-zero-r, bitAnd, and-zero-l}
 use lib.Dec.{eqb, ltb}
 use lib.ListN.{length, getD, take, drop, length-drop}
 use lib.Seq.{getD-take, getD-drop, length-take-le}
@@ -18,10 +18,7 @@ use Rattle.rules.specs.declared.Cell.{Cell}
 use Rattle.rules.specs.declared.Slot.{Slot}
 use Rattle.rules.specs.Cells.{free, nth, isFree, isLive, isBlank, isSound, width, records, cellsOf}
 use Rattle.ideal.specs.Words.{nth-cellsOf, in-words}
-
--- an or that is 0
-pub or-none : (a b : ℕ) → bitOr a b ≡ 0 → (a ≡ 0) × (b ≡ 0)
-or-none a b e = (omega (arith, or-add-and a b, and-le-r a b), omega (arith, or-add-and a b, and-le-l a b))
+use Rattle.noting.specs.Noting.{or-none, BlockLacks}
 
 -- r is 0 only where every word is
 pub record OrOf (ws : List ℕ) (r : ℕ) : Type 0 where
@@ -40,6 +37,10 @@ Free ws k x = nth (cellsOf ws) (k + x) ≡ free
 -- and so are the eight records of its block b
 abbrev pub BlockFree : List ℕ → ℕ → ℕ → Type 0
 BlockFree ws k = Eight (Free ws k)
+
+-- whose places lack all bits
+pub free-lacks : (ws : List ℕ) (k bits b : ℕ) → BlockFree ws k b → BlockLacks ws k bits b
+free-lacks ws k bits b h j l = ap (λ (c : Cell). bitAnd (c .place) bits) (h j l) ∙ and-zero-l bits
 
 -- by the forty words from record a on
 module _ (ws : List ℕ) (a : ℕ) (l : a + 8 ≤ records ws) (z : (i : ℕ) → i < 40 → _≡_ {A = ℕ} (getD ws (a * width + i) 0) 0) where

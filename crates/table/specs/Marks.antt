@@ -23,7 +23,7 @@ use Rattle.ideal.specs.Words.{length-cellsOf, nth-cellsOf}
 use Rattle.ports.specs.Ports.{has, Added}
 use Rattle.table.specs.Table.{not-live}
 use Rattle.table.specs.Blocks.{free-not-live, Strays}
-use Rattle.table.specs.Noting.{Lacks, walk-to, walk-end}
+use Rattle.noting.specs.Noting.{Lacks, walk-to, walk-end}
 
 abbrev rowOf : Cell → ℕ
 rowOf c = c .entered .0 % 1024

@@ -22,7 +22,7 @@ use Rattle.rules.specs.declared.Cell.{Cell}
 use Rattle.rules.specs.declared.Output.{Output}
 use Rattle.rules.specs.Cells.{mostPorts, outputOf, nth, cellsOf, isReady, sameOutput, isReadyFor, older}
 use Rattle.rules.specs.Phases.{readyCount, readings}
-use Rattle.table.specs.Noting.{Lacks, lacks-other, walk-to, walk-end}
+use Rattle.noting.specs.Noting.{Lacks, lacks-other, walk-to, walk-end}
 
 -- a cell that is ready for some output
 unfoldable pub isCounted : Cell → Bool

@@ -21,10 +21,8 @@ ghost use Rattle.table.specs.Table.{Stored, NoneBelow, olderAt};
 ghost use Rattle.laws.specs.Noted.{Noted};
 ghost use Rattle.table.specs.Blocks.{OrOf, BlockFree, Stray, Strays};
 ghost use Rattle.table.specs.Reading.{bumped, isCounted};
-ghost use Rattle.table.specs.Noting.{Lacks};
+ghost use Rattle.noting.specs.Noting.{Lacks};
 ghost use Rattle.table.specs.Marks.{Seen, Marked, Passed};
-
-pub mod noting;
 
 pub fn record_count(table: &[u32]) -> usize
     ensures { λ r. ⌜ r ≡ records (now (table .entry)) ⌝ }

@@ -8,7 +8,7 @@ use denote.Ref.{now}
 use Rattle.laws.specs.Noted.{past}
 use Rattle.rules.specs.Cells.{cellsOf}
 use Rattle.ideal.specs.Words.{length-cellsOf}
-use Rattle.table.specs.Noting.{past-more, noted-inside}
+use Rattle.noting.specs.Noting.{past-more, noted-inside}
 use Rattle.queues.specs.Chains.{no-chains}
 use Rattle.queues.specs.Heads.{no-heads, queues-all}
 use Rattle.queues.specs.Lining.{Lined, lined-to, lined-end}

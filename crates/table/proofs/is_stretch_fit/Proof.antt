@@ -11,7 +11,7 @@ use Rattle.laws.specs.Count.{every-more}
 use Rattle.laws.specs.Noted.{past}
 use Rattle.rules.specs.Cells.{cellsOf, isSound}
 use Rattle.ideal.specs.Words.{in-words}
-use Rattle.table.specs.Noting.{past-more, noted-inside}
+use Rattle.noting.specs.Noting.{past-more, noted-inside}
 use Rattle.table.specs.Marks.{Passed, passed-to, passed-end, unfit}
 use Rattle.table.proofs.is_stretch_fit.Statement.{statement}
 use Rattle.table.proofs.is_stretch_fit.Tie as tie

@@ -4,7 +4,7 @@ use mathlib.Core.Path.{_≡_}
 use native.Mathlib.Omega.{arith}
 use borrow.Author.Needs.{needs}
 use Rattle.laws.specs.Noted.{noted-as}
-use Rattle.table.specs.Noting.{free-lacks}
+use Rattle.table.specs.Blocks.{free-lacks}
 use Rattle.table.proofs.note_live.Statement.{statement}
 use Rattle.table.proofs.note_live.Tie as tie
 

@@ -10,7 +10,7 @@ use Rattle.laws.specs.Noted.{past}
 use Rattle.rules.specs.Cells.{cellsOf}
 use Rattle.rules.specs.Phases.{oldestReady}
 use Rattle.ideal.specs.Words.{length-cellsOf}
-use Rattle.table.specs.Noting.{past-more, noted-inside}
+use Rattle.noting.specs.Noting.{past-more, noted-inside}
 use Rattle.table.specs.Reading.{oldestBelow, oldest-to, oldest-end}
 use Rattle.table.proofs.oldest_ready.Statement.{statement}
 use Rattle.table.proofs.oldest_ready.Tie as tie

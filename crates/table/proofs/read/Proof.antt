@@ -8,7 +8,7 @@ use denote.Ref.{now}
 use Rattle.laws.specs.Noted.{past}
 use Rattle.rules.specs.Cells.{cellsOf}
 use Rattle.ideal.specs.Words.{length-cellsOf}
-use Rattle.table.specs.Noting.{past-more, noted-inside}
+use Rattle.noting.specs.Noting.{past-more, noted-inside}
 use Rattle.table.specs.Reading.{bumped, readingsBelow, readings-none, readings-more, readings-to, readings-end, readings-all, readings-le, length-readings}
 use Rattle.table.proofs.read.Statement.{statement}
 use Rattle.table.proofs.read.Tie as tie

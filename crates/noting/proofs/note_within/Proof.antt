@@ -6,9 +6,9 @@ use native.Mathlib.Numerals.{add-one}
 use lib.ListN.{length, getD}
 use denote.Ref.{now}
 use Rattle.laws.specs.Noted.{Noted, past, noted-none, noted-skip, eights-between, eights-behind}
-use Rattle.table.specs.Noting.{Lacks}
-use Rattle.table.proofs.noting.note_within.Statement.{statement}
-use Rattle.table.proofs.noting.note_within.Tie as tie
+use Rattle.noting.specs.Noting.{Lacks}
+use Rattle.noting.proofs.note_within.Statement.{statement}
+use Rattle.noting.proofs.note_within.Tie as tie
 
 abbrev Inv-loop : tie.InvT-loop
 Inv-loop table k size bits blocks count list₀ found₀ j₀ list found j = (j ≤ count) × (length list ≡ 256) × Noted (Lacks table k bits) list found (past blocks j * 8)

@@ -6,10 +6,9 @@ use native.Mathlib.Numerals.{add-one}
 use denote.Ref.{now}
 use Rattle.laws.specs.Walk.{below-suc}
 use Rattle.ideal.specs.Words.{in-words}
-use Rattle.table.specs.Blocks.{or-none}
-use Rattle.table.specs.Noting.{Lacks, lacks-word}
-use Rattle.table.proofs.noting.any_of_eight.Statement.{statement}
-use Rattle.table.proofs.noting.any_of_eight.Tie as tie
+use Rattle.noting.specs.Noting.{or-none, Lacks, lacks-word}
+use Rattle.noting.proofs.any_of_eight.Statement.{statement}
+use Rattle.noting.proofs.any_of_eight.Tie as tie
 
 abbrev Inv-loop : tie.InvT-loop
 Inv-loop table k bits any₀ j₀ any j = (j ≤ 8) × (any ≡ 0 → (i : ℕ) → i < j → Lacks table k bits i)

@@ -8,9 +8,9 @@ use denote.Ref.{now}
 use Rattle.laws.specs.Tests.{to-so}
 use Rattle.laws.specs.Noted.{Noted, noted-more}
 use Rattle.ideal.specs.Words.{in-words}
-use Rattle.table.specs.Noting.{Lacks, lacks-word}
-use Rattle.table.proofs.noting.note_records.Statement.{statement}
-use Rattle.table.proofs.noting.note_records.Tie as tie
+use Rattle.noting.specs.Noting.{Lacks, lacks-word}
+use Rattle.noting.proofs.note_records.Statement.{statement}
+use Rattle.noting.proofs.note_records.Tie as tie
 
 abbrev Inv-loop : tie.InvT-loop
 Inv-loop table k from to bits list₀ found next₀ x₀ list next x = (x ≤ to) × (length list ≡ 256) × Noted (Lacks table k bits) list next x

@@ -7,7 +7,7 @@ use mathlib.Core.List.{List}
 use native.Mathlib.Omega.{arith}
 use borrow.Author.Tests.{eqb-true}
 use native.Mathlib.Numerals.{add-one}
-use lib.Bits.{bitAnd, and-self, and-zero-l}
+use lib.Bits.{bitOr, or-add-and, bitAnd, and-le-l, and-le-r, and-self}
 use lib.Dec.{eqb}
 use lib.ListN.{getD}
 use Rattle.laws.specs.Tests.{No, to-so}
@@ -15,7 +15,10 @@ use Rattle.laws.specs.Noted.{Noted, Eight, past, to-noted, to-end}
 use Rattle.rules.specs.declared.Cell.{Cell}
 use Rattle.rules.specs.Cells.{nth, width, records, cellsOf}
 use Rattle.ideal.specs.Words.{nth-cellsOf}
-use Rattle.table.specs.Blocks.{BlockFree}
+
+-- an or that is 0
+pub or-none : (a b : ℕ) → bitOr a b ≡ 0 → (a ≡ 0) × (b ≡ 0)
+or-none a b e = (omega (arith, or-add-and a b, and-le-r a b), omega (arith, or-add-and a b, and-le-l a b))
 
 -- the place of record x of the stretch that begins at record k has none of `bits`
 abbrev pub Lacks : List ℕ → ℕ → ℕ → ℕ → Type 0
@@ -35,10 +38,6 @@ module _ (ws : List ℕ) (k bits : ℕ) where
   block-lacks b r h q j l =
       let e : k + b * 8 + j ≡ k + (b * 8 + j) = omega arith in
       rw e at (h (eqb-true r 0 (to-so (eqb r 0) q)) j l)
-
--- a free record's place lacks them all
-pub free-lacks : (ws : List ℕ) (k bits b : ℕ) → BlockFree ws k b → BlockLacks ws k bits b
-free-lacks ws k bits b h j l = ap (λ (c : Cell). bitAnd (c .place) bits) (h j l) ∙ and-zero-l bits
 
 -- a place that lacks the bits of another is not that one
 pub lacks-other : (p bits : ℕ) → 0 < bits → bitAnd p bits ≡ 0 → p ≡ bits → ⊥

@@ -2,8 +2,8 @@
 use native.Mathlib.Omega.{arith}
 use mathlib.Core.Path.{sym}
 use borrow.Author.Needs.{needs}
-use Rattle.table.proofs.noting.note.Statement.{statement}
-use Rattle.table.proofs.noting.note.Tie as tie
+use Rattle.noting.proofs.note.Statement.{statement}
+use Rattle.noting.proofs.note.Tie as tie
 
 sub-size : tie.Need-sub-size
 sub-size c = search needs

@@ -4,8 +4,8 @@ use mathlib.Core.Bool.{Bool, not}
 use borrow.Author.Tests.{eq-eqb, ne-eqb}
 use native.Mathlib.Omega.{arith}
 use Rattle.laws.specs.Count.{bit}
-use Rattle.table.proofs.noting.one_if_any.Statement.{statement}
-use Rattle.table.proofs.noting.one_if_any.Tie as tie
+use Rattle.noting.proofs.one_if_any.Statement.{statement}
+use Rattle.noting.proofs.one_if_any.Tie as tie
 
 returns : tie.Need-returns
 returns c = (sym (ap (λ (b : Bool). bit (not b)) (eq-eqb (c .before .args .x) 0 (c .if1 .taken))), omega arith)

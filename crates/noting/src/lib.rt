@@ -10,7 +10,7 @@ ghost use lib.ListN.{length};
 ghost use Rattle.laws.specs.Count.{bit};
 ghost use Rattle.laws.specs.Noted.{Noted};
 ghost use Rattle.rules.specs.Cells.{records};
-ghost use Rattle.table.specs.Noting.{Lacks, BlockLacks};
+ghost use Rattle.noting.specs.Noting.{Lacks, BlockLacks};
 
 // The bits of the places: of waiting cells, of ready ones and of all live ones.
 pub const WAITING: u32 = 1;

@@ -6,9 +6,9 @@ use lib.ListN.{length, length-set}
 use denote.Ref.{now}
 use Rattle.laws.specs.Noted.{Noted, noted-none, noted-more}
 use Rattle.ideal.specs.Words.{in-words}
-use Rattle.table.specs.Noting.{BlockLacks, block-lacks}
-use Rattle.table.proofs.noting.note_blocks.Statement.{statement}
-use Rattle.table.proofs.noting.note_blocks.Tie as tie
+use Rattle.noting.specs.Noting.{BlockLacks, block-lacks}
+use Rattle.noting.proofs.note_blocks.Statement.{statement}
+use Rattle.noting.proofs.note_blocks.Tie as tie
 
 abbrev Inv-loop : tie.InvT-loop
 Inv-loop table k count bits blocks₀ found₀ b₀ blocks found b = (b ≤ count) × (length blocks ≡ 32) × Noted (BlockLacks table k bits) blocks found b
