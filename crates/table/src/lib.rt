@@ -1,6 +1,6 @@
 // The cell table as it is lent: flat words, five a record. What stands in a record, how it is changed, and what the scans find.
-// Only `record_count`, `is_whole`, `clear`, `cell_at`, `put_cell`, `set_place`, the search for stray words and `noting` know of words; the scans go by
-// records, and look only at those that `noting` wrote down.
+// Only `record_count`, `is_whole`, `clear`, `cell_at`, `put_cell`, `set_place` and the search for stray words know of words. The reading, the scan of
+// the exhale and the fit check look at no record but those that `noting` wrote down.
 use laws::Found;
 use rules::Cell;
 use rules::Input;
@@ -8,20 +8,20 @@ use rules::Output;
 use rules::Slot;
 ghost use mathlib.Core.Path.{_≡_};
 ghost use mathlib.Core.Bool.{So};
-ghost use Rattle.laws.specs.Tests.{No};
 ghost use Prim.Native.Nat.{_+_, _-_, _*_, _/_, _%_, _<_, _≤_};
 ghost use lib.ListN.{length, getD, replicate};
+ghost use Rattle.laws.specs.Tests.{No};
 ghost use Rattle.laws.specs.Least.{Below, sooner};
 ghost use Rattle.laws.specs.Count.{bit};
 ghost use Rattle.laws.specs.First.{firstFound};
+ghost use Rattle.laws.specs.Noted.{Noted};
 ghost use Rattle.rules.specs.Cells.{free, placed, nth, records, isWhole, cellsOf, isReadyFor, isBlank, isSound, sameEntry, isAlone, fit, older};
 ghost use Rattle.rules.specs.Answers.{live};
 ghost use Rattle.rules.specs.Phases.{lowestFree, readings, oldestReady};
+ghost use Rattle.noting.specs.Noting.{Lacks};
 ghost use Rattle.table.specs.Table.{Stored, NoneBelow, olderAt};
-ghost use Rattle.laws.specs.Noted.{Noted};
 ghost use Rattle.table.specs.Blocks.{OrOf, BlockFree, Stray, Strays};
 ghost use Rattle.table.specs.Reading.{bumped, isCounted};
-ghost use Rattle.noting.specs.Noting.{Lacks};
 ghost use Rattle.table.specs.Marks.{Seen, Marked, Passed};
 
 pub fn record_count(table: &[u32]) -> usize
