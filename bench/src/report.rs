@@ -39,9 +39,9 @@ the fit check, the count of live cells, the reading and the lining up of the que
 The slot is one function of some fifteen hundred instructions, with no division and no call but of memset and, for blocks that have a record with\n\
 the place that is asked for, of `note_within`. What stands in a record decides no branch in the passes: the places of eight records are or-ed from\n\
 memory, one bit of that is added to how many blocks are noted, and the words of eight records are or-ed in vectors for the fit check. Free ports are\n\
-stepped through by tzcnt, a set less another is a not and an and. A struct that is passed by value is copied where an element of it is read: a phase\n\
-copies the sixteen counts once a round, and what it picked is lent and not copied any more. In the program a slot line costs a call, each field\n\
-one or two, and no byte one.
+stepped through by tzcnt, a set less another is a not and an and. A struct that is passed by value is copied where an element of it is read: the\n\
+sixteen counts where a phase looks for the lowest, not in each round; what a phase picked is lent, and not copied any more. In the program a slot\n\
+line costs a call, each field one or two, and no byte one.
 ";
 
 fn head() -> String {
