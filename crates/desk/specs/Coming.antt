@@ -10,8 +10,8 @@ use Rattle.laws.specs.Folds.{fold}
 use Rattle.rules.specs.Answers.{arrivalWidth}
 use Rattle.rules.specs.Calls.{State}
 use Rattle.text.specs.declared.FirstReader.{FirstReader}
-use Rattle.text.specs.Printed.{unreadableLine}
-use Rattle.text.specs.Prints.{Put}
+use Rattle.printing.specs.Printed.{unreadableLine}
+use Rattle.printing.specs.Prints.{Put}
 use Rattle.text.specs.Steps.{Slot, slotOf, endField, slotStep, isWhole, firstStep, firstAnswer}
 use Rattle.desk.specs.declared.Running.{Running}
 use Rattle.desk.specs.declared.Desk.{Desk}

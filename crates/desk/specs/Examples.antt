@@ -16,7 +16,7 @@ use Rattle.rules.specs.Answers.{isDone, firstWord, tagWord, arrives, arriving, 
 use Rattle.rules.specs.Phases.{lowestFree, enter, inhale, readyCount, readings, conflict, isOpen, firstOpen, none, add, round, matchOf, moved, phase, phases, matchWords, matches, oldestReady, isEmitted, exhale, exhaled}
 use Rattle.rules.specs.Calls.{freshStart, entered, transferred, slotRuns, slot}
 use Rattle.text.specs.Lines.{cut, isDigit, push, value, isNumber, firstLine, isOutput, arrival, isSlotLine, slotWords}
-use Rattle.text.specs.Printed.{digits, decimal, field, headerLine, cellLine, refusedLine, unreadableLine, heldLine}
+use Rattle.printing.specs.Printed.{digits, decimal, field, headerLine, cellLine, refusedLine, unreadableLine, heldLine}
 use Rattle.desk.specs.Program.{linesOf, heldText, endText, cellText, slotText, slotOn, lineText, lineAfter, slotsText, startText, firstText, openingText, programText}
 
 unfoldable pub prints : String → List ℕ

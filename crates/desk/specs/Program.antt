@@ -13,7 +13,7 @@ use Rattle.rules.specs.Calls.{Started, freshStart, Outcome, slot, State}
 use Rattle.text.specs.declared.FirstLine.{FirstLine}
 use Rattle.text.specs.declared.FirstLine.the-variants.{Numbers, Unreadable}
 use Rattle.text.specs.Lines.{cut, isEmpty, firstLine, isSlotLine, slotWords}
-use Rattle.text.specs.Printed.{headerLine, cellLine, refusedLine, unreadableLine, heldLine}
+use Rattle.printing.specs.Printed.{headerLine, cellLine, refusedLine, unreadableLine, heldLine}
 
 abbrev pub newline : ℕ
 newline = 10

@@ -7,7 +7,7 @@ use mathlib.Core.List.{List, [], _++_, append-assoc, append-nil}
 use lib.ListN.{take}
 use Rattle.text.specs.Lines.{cut}
 use Rattle.text.specs.Steps.{firstStart}
-use Rattle.text.specs.Prints.{Put}
+use Rattle.printing.specs.Prints.{Put}
 use Rattle.desk.specs.declared.Desk.{Desk}
 use Rattle.desk.specs.declared.Desk.the-variants.{First, Between, Within, Over}
 use Rattle.desk.specs.Program.{linesOf, slotsText, programText}

@@ -15,7 +15,7 @@ use Rattle.rules.specs.Cells.{width, isWhole as isWholeTable, records, mostReco
 use Rattle.rules.specs.Answers.{numberOf, isDone, outside, freshAnswer}
 use Rattle.rules.specs.Calls.{Started, freshStart}
 use Rattle.ideal.specs.Calls.{fresh-sizes, fresh-accepted, fresh-refused}
-use Rattle.text.specs.Printed.{headerLine, refusedLine}
+use Rattle.printing.specs.Printed.{headerLine, refusedLine}
 use Rattle.desk.specs.Program.{slotsText, startText}
 use Rattle.desk.specs.Coming.{lentWords}
 

@@ -20,8 +20,8 @@ use Rattle.ideal.specs.Words.{length-cellsOf}
 use Rattle.text.specs.declared.SlotReader.{SlotReader}
 use Rattle.text.specs.Steps.{Slot, slotOf, readerStart, endField, slotStep, isWhole}
 use Rattle.text.specs.Parts.{part, endsLine, Taken, part-rest}
-use Rattle.text.specs.Printed.{refusedLine}
-use Rattle.text.specs.Prints.{Put, put-none, put-then}
+use Rattle.printing.specs.Printed.{refusedLine}
+use Rattle.printing.specs.Prints.{Put, put-none, put-then}
 use Rattle.desk.specs.declared.Running.{Running}
 use Rattle.desk.specs.declared.Desk.{Desk}
 use Rattle.desk.specs.declared.Desk.the-variants.{Between, Within, Over}

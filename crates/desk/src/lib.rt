@@ -12,7 +12,7 @@ ghost use mathlib.Core.Path.{_≡_};
 ghost use mathlib.Core.List.{List, _∷_, _++_};
 ghost use lib.ListN.{length, take, drop, replicate};
 ghost use Rattle.text.specs.declared.FirstLine.the-variants.{Numbers};
-ghost use Rattle.text.specs.Prints.{Put};
+ghost use Rattle.printing.specs.Prints.{Put};
 ghost use Rattle.text.specs.Steps.{firstStart, slotOf};
 ghost use Rattle.desk.specs.declared.Desk.the-variants.{First, Within};
 ghost use Rattle.desk.specs.Program.{newline, linesOf, cellText, slotText, heldText, endText, lineText, lineAfter, slotsText, firstText};
@@ -154,7 +154,7 @@ impl Desk {
         ensures put { λ r. ⌜ Put (now (out .entry)) at (closing self (now (table .entry))) (now (out .exit)) r ⌝ }
     {
         match self {
-            Desk::First(_) => text::print::put_unreadable(out, at),
+            Desk::First(_) => printing::put_unreadable(out, at),
             Desk::Between(running) => running.put_held(table, out, at),
             Desk::Within(running, _) => running.put_end(table, out, at),
             Desk::Over => at,
@@ -177,7 +177,7 @@ fn first_step(reader: FirstReader, byte: u8, table: &mut [u32], out: &mut [u8], 
     let FirstLine::Numbers(ports, speedup, records) = reader.finish() else {
         return Turn {
             desk: Desk::Over,
-            at: text::print::put_unreadable(out, at),
+            at: printing::put_unreadable(out, at),
         };
     };
     begin(ports, speedup, records, table, out, at)
@@ -209,7 +209,7 @@ fn begin(
     if !answer.is_done() {
         return Turn {
             desk: Desk::Over,
-            at: text::print::put_refused(out, at, answer.number()),
+            at: printing::put_refused(out, at, answer.number()),
         };
     }
     let crossbar = started.crossbar;
@@ -219,7 +219,7 @@ fn begin(
     };
     Turn {
         desk: Desk::Between(running),
-        at: text::print::put_header(out, at),
+        at: printing::put_header(out, at),
     }
 }
 
@@ -351,7 +351,7 @@ impl Running {
         if !answer.is_done() {
             return Turn {
                 desk: Desk::Between(next),
-                at: text::print::put_refused(out, at, answer.number()),
+                at: printing::put_refused(out, at, answer.number()),
             };
         }
         Turn {
@@ -367,7 +367,7 @@ impl Running {
         ensures within { λ r. ⌜ r ≤ at + 120 ⌝ }
         ensures put { λ r. ⌜ Put (now (out .entry)) at (endText (stateOf self (now (table .entry)))) (now (out .exit)) r ⌝ }
     {
-        let next = text::print::put_unreadable(out, at);
+        let next = printing::put_unreadable(out, at);
         self.put_held(table, out, next)
     }
 
@@ -379,7 +379,7 @@ impl Running {
     {
         let words = self.words;
         let live = table::live(&table[..words]);
-        text::print::put_held(out, at, live as u32)
+        printing::put_held(out, at, live as u32)
     }
 }
 
@@ -410,7 +410,7 @@ fn put_output(out: &mut [u8], at: usize, slot: u32, output: u32, exhaled: &[u32]
     if exhaled[word] == 0 {
         return at;
     }
-    text::print::put_cell(
+    printing::put_cell(
         out,
         at,
         slot,

@@ -4,7 +4,7 @@ use Prim.Native.Nat.{ℕ}
 use Prim.Native.String.{String}
 use mathlib.Core.Path.{_≡_, refl}
 use mathlib.Core.Bool.{Bool, true, false}
-use mathlib.Core.List.{[], _∷_, _++_, flatMap}
+use mathlib.Core.List.{[], _∷_, flatMap}
 use Rattle.laws.specs.Folds.{fold, each}
 use Rattle.laws.specs.Texts.{bytes}
 use Rattle.text.specs.declared.FirstLine.{FirstLine}
@@ -12,7 +12,6 @@ use Rattle.text.specs.declared.FirstLine.the-variants.{Numbers, Unreadab
 use Rattle.text.specs.declared.Arrival.{Arrival}
 use Rattle.text.specs.declared.Arrival.the-variants.{Words, NoArrival}
 use Rattle.text.specs.Lines.{cut, isDigit, push, value, isNumber, firstLine, isOutput, arrival, isSlotLine, slotWords}
-use Rattle.text.specs.Printed.{digits, decimal, field, headerLine, cellLine, refusedLine, unreadableLine, heldLine}
 
 unfoldable pub firstOf : String → FirstLine
 firstOf s = firstLine (bytes s)
@@ -29,14 +28,11 @@ pub record Examples : Type 0 where
   pub both-send : (reads 2 "0:10 0:11" ≡ true) × (slotWords (bytes "0:10 0:11") ≡ 1 ∷ 10 ∷ 1 ∷ 11 ∷ [])
   pub one-sends : (reads 2 "1:12 -" ≡ true) × (slotWords (bytes "1:12 -") ≡ 2 ∷ 12 ∷ 0 ∷ 0 ∷ [])
   pub none-send : (reads 2 "- -" ≡ true) × (slotWords (bytes "- -") ≡ 0 ∷ 0 ∷ 0 ∷ 0 ∷ [])
-  pub printed : headerLine ++ (cellLine 0 0 0 0 10 ++ (cellLine 1 0 1 0 11 ++ (cellLine 1 1 0 1 12 ++ heldLine 0)))
-      ≡ bytes "slot output input entered tag\n0 0 0 0 10\n1 0 1 0 11\n1 1 0 1 12\nheld 0\n"
-  pub refusals : refusedLine 6 ++ unreadableLine ≡ bytes "refused 6\nunreadable\n"
   -- the largest numbers, and leading zeros
   pub outputs : (fieldOf "4294967294:0" ≡ Words 4294967295 0) × (fieldOf "4294967295:0" ≡ NoArrival)
   pub tags : (fieldOf "0:4294967295" ≡ Words 1 4294967295) × (fieldOf "0:4294967296" ≡ NoArrival)
   pub sizes-edge : (firstOf "4294967295 0 00000000000004294967295" ≡ Numbers 4294967295 0 4294967295) × (firstOf "4294967296 0 0" ≡ Unreadable)
-  pub long : (fieldOf "00000000000000:00000000000007" ≡ Words 1 7) × (decimal 4294967295 ≡ bytes "4294967295") × (decimal 0 ≡ bytes "0")
+  pub long : fieldOf "00000000000000:00000000000007" ≡ Words 1 7
   -- another number of fields, or a field of another form
   pub spaces : (reads 2 "- - " ≡ false) × (reads 2 " - -" ≡ false) × (reads 2 "-  -" ≡ false) × (reads 3 "-  -" ≡ false) × (firstOf "2 3 4 " ≡ Unreadable)
   pub counts : (reads 2 "-" ≡ false) × (reads 2 "- - -" ≡ false) × (firstOf "2 3" ≡ Unreadable) × (firstOf "2 3 4 5" ≡ Unreadable)
@@ -46,18 +42,16 @@ pub record Examples : Type 0 where
   pub strangers : (fieldOf "+1:2" ≡ NoArrival) × (fieldOf "0x1:2" ≡ NoArrival) × (firstOf "2 3 4\r" ≡ Unreadable) × (firstOf "2\t3 4" ≡ Unreadable) × (firstOf "2 3 4\0" ≡ Unreadable) × (arrival (49 ∷ 58 ∷ 178 ∷ []) ≡ NoArrival)
 
 pub examples : Examples
-unfolding firstOf fieldOf reads bytes fold each flatMap cut isDigit push value isNumber firstLine isOutput arrival isSlotLine slotWords digits decimal field headerLine cellLine refusedLine unreadableLine heldLine
+unfolding firstOf fieldOf reads bytes fold each flatMap cut isDigit push value isNumber firstLine isOutput arrival isSlotLine slotWords
 examples = record {
   sizes = refl;
   both-send = (refl, refl);
   one-sends = (refl, refl);
   none-send = (refl, refl);
-  printed = refl;
-  refusals = refl;
   outputs = (refl, refl);
   tags = (refl, refl);
   sizes-edge = (refl, refl);
-  long = (refl, refl, refl);
+  long = refl;
   spaces = (refl, refl, refl, refl, refl);
   counts = (refl, refl, refl, refl);
   blank = (refl, refl);

@@ -11,8 +11,6 @@ ghost use Rattle.text.specs.Lines.{space, colon, isDigit};
 ghost use Rattle.text.specs.Steps.{grown, numberStep, fieldStep, fieldEnd, tagEnd, slotOf, readerStart, endField, slotStep, Finished, isGood, oneMore, firstStart, firstStep, firstAnswer};
 ghost use Rattle.text.specs.Parts.{ends, endsLine, Upto, Taken, Grows};
 
-pub mod print;
-
 pub const SPACE: u8 = 32;
 
 pub const NEWLINE: u8 = 10;

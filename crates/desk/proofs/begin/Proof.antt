@@ -12,7 +12,7 @@ use borrow.Author.Tests.{not-true, not-false}
 use denote.Ref.{now}
 use Rattle.rules.specs.Cells.{switch}
 use Rattle.rules.specs.Calls.{State}
-use Rattle.text.specs.Printed.{headerLine}
+use Rattle.printing.specs.Printed.{headerLine}
 use Rattle.desk.specs.Program.{linesOf, slotsText, firstText}
 use Rattle.desk.specs.Coming.{lentWords}
 use borrow.Author.Needs.{needs}

@@ -4,7 +4,7 @@ use mathlib.Core.Path.{sym, ap, _∙_}
 use native.Mathlib.Omega.{arith}
 use borrow.Author.Tests.{ne-eqb}
 use Rattle.text.specs.declared.FirstReader.{FirstReader}
-use Rattle.text.specs.Printed.{unreadableLine}
+use Rattle.printing.specs.Printed.{unreadableLine}
 use Rattle.desk.specs.Program.{linesOf, firstText}
 use Rattle.desk.specs.Coming.{openingFrom, comingBy}
 use Rattle.desk.specs.Bytes.{opening-byte, opening-end}

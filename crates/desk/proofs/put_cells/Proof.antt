@@ -3,7 +3,7 @@
 use Prim.Native.Nat.{_+_, _*_, _≤_, _-_}
 use mathlib.Core.Path.{_≡_}
 use native.Mathlib.Omega.{arith}
-use Rattle.text.specs.Prints.{Put, put-none, put-then}
+use Rattle.printing.specs.Prints.{Put, put-none, put-then}
 use Rattle.desk.specs.Program.{slotText}
 use Rattle.desk.specs.Turns.{slot-none, slot-more}
 use Rattle.desk.proofs.put_cells.Statement.{statement}

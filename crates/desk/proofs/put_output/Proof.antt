@@ -2,7 +2,7 @@
 -- Assumes nothing.
 use native.Mathlib.Omega.{arith}
 use borrow.Author.Tests.{eq-eqb, ne-eqb}
-use Rattle.text.specs.Prints.{put-none}
+use Rattle.printing.specs.Prints.{put-none}
 use Rattle.desk.specs.Program.{cellText}
 use borrow.Author.Needs.{needs}
 use Rattle.desk.proofs.put_output.Statement.{statement}

@@ -1,7 +1,7 @@
 -- Each arm is the case of `closing`.
 -- Assumes nothing.
 use native.Mathlib.Omega.{arith}
-use Rattle.text.specs.Prints.{put-none}
+use Rattle.printing.specs.Prints.{put-none}
 use Rattle.desk.specs.Coming.{closing}
 use Rattle.desk.specs.Turns.{inside-between, inside-within}
 use borrow.Author.Needs.{needs}

@@ -1,7 +1,7 @@
 -- Two lines, one behind the other.
 -- Assumes nothing.
 use native.Mathlib.Omega.{arith}
-use Rattle.text.specs.Prints.{put-then}
+use Rattle.printing.specs.Prints.{put-then}
 use Rattle.desk.specs.Program.{endText}
 use borrow.Author.Needs.{needs}
 use Rattle.desk.proofs.Running.put_end.Statement.{statement}

@@ -13,8 +13,8 @@ use lib.Seq.{length-take-le, set-split, take-set-le, take-suc-set, take-add, dro
 use borrow.Author.Tests.{ltb-true, ltb-false, lt-ltb, le-ltb, le-leb}
 use Rattle.laws.specs.Tests.{join}
 use Rattle.laws.specs.Folds.{fold, fold-more, each, each-more}
 use Rattle.text.specs.Lines.{isDigit, push, value}
-use Rattle.text.specs.Printed.{digit, digits, decimal}
+use Rattle.printing.specs.Printed.{digit, digits, decimal}
 
 -- `text` stands at `at` in what was `old` and is `new`, and ends at r; what stood before it stands there still
 pub record Put (old : List ℕ) (at : ℕ) (text new : List ℕ) (r : ℕ) : Type 0 where

@@ -2,10 +2,10 @@
 -- Assumes nothing.
 use native.Mathlib.Omega.{arith}
 use Rattle.laws.specs.Texts.{bytes}
-use Rattle.text.specs.Printed.{unreadableLine}
+use Rattle.printing.specs.Printed.{unreadableLine}
 use borrow.Author.Needs.{needs}
-use Rattle.text.proofs.print.put_unreadable.Statement.{statement}
-use Rattle.text.proofs.print.put_unreadable.Tie as tie
+use Rattle.printing.proofs.put_unreadable.Statement.{statement}
+use Rattle.printing.proofs.put_unreadable.Tie as tie
 
 slice-aggregate-put-text : tie.Need-slice-aggregate-put-text
 slice-aggregate-put-text c = search needs

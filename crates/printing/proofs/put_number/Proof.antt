@@ -5,10 +5,10 @@ use mathlib.Core.Path.{_≡_, ap, _∙_}
 use native.Mathlib.Omega.{arith}
 use mathlib.Core.List.{[], _∷_, _++_}
 use lib.ListN.{length, length-set}
-use Rattle.text.specs.Printed.{decimal}
-use Rattle.text.specs.Prints.{Behind, behind-none, behind-byte, behind-all, decimal-one, decimal-more, decimal-longer}
-use Rattle.text.proofs.print.put_number.Statement.{statement}
-use Rattle.text.proofs.print.put_number.Tie as tie
+use Rattle.printing.specs.Printed.{decimal}
+use Rattle.printing.specs.Prints.{Behind, behind-none, behind-byte, behind-all, decimal-one, decimal-more, decimal-longer}
+use Rattle.printing.proofs.put_number.Statement.{statement}
+use Rattle.printing.proofs.put_number.Tie as tie
 
 abbrev Inv-loop : tie.InvT-loop
 Inv-loop buf₀ at number end left₀ next₀ buf left next = (next ≤ end) × Behind buf₀ at (decimal left) (decimal number) buf next

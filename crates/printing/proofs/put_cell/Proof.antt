@@ -1,11 +1,11 @@
 -- Five numbers, one behind the other.
 -- Assumes nothing.
 use native.Mathlib.Omega.{arith}
-use Rattle.text.specs.Printed.{cellLine}
-use Rattle.text.specs.Prints.{put-then}
+use Rattle.printing.specs.Printed.{cellLine}
+use Rattle.printing.specs.Prints.{put-then}
 use borrow.Author.Needs.{needs}
-use Rattle.text.proofs.print.put_cell.Statement.{statement}
-use Rattle.text.proofs.print.put_cell.Tie as tie
+use Rattle.printing.proofs.put_cell.Statement.{statement}
+use Rattle.printing.proofs.put_cell.Tie as tie
 
 put-field-requires : tie.Need-put-field-requires
 put-field-requires c κs = search needs

@@ -2,11 +2,11 @@
 -- Assumes nothing.
 use native.Mathlib.Omega.{arith}
 use Rattle.laws.specs.Texts.{bytes}
-use Rattle.text.specs.Printed.{heldLine}
-use Rattle.text.specs.Prints.{put-then}
+use Rattle.printing.specs.Printed.{refusedLine}
+use Rattle.printing.specs.Prints.{put-then}
 use borrow.Author.Needs.{needs}
-use Rattle.text.proofs.print.put_held.Statement.{statement}
-use Rattle.text.proofs.print.put_held.Tie as tie
+use Rattle.printing.proofs.put_refused.Statement.{statement}
+use Rattle.printing.proofs.put_refused.Tie as tie
 
 slice-aggregate-put-text : tie.Need-slice-aggregate-put-text
 slice-aggregate-put-text c = search needs
@@ -21,10 +21,10 @@ same-length : tie.Need-same-length
 same-length c = search needs
 
 returns : tie.Need-returns
-unfolding heldLine bytes
+unfolding refusedLine bytes
 returns c = (omega (arith, c .before .before .before .before .before .before .put-text .ensures .place, c .before .before .put-field .ensures .0), put-then (c .before .before .before .before .before .before .put-text .ensures) (c .before .before .put-field .ensures .1))
 
-pub put-held-spec : {M : Type 1} → statement M
-put-held-spec =
+pub put-refused-spec : {M : Type 1} → statement M
+put-refused-spec =
     tie.close
     (tie.spec slice-aggregate-put-text put-text-requires put-field-requires same-length returns)

@@ -6,9 +6,9 @@ use native.Mathlib.Omega.{arith}
 use native.Mathlib.Numerals.{add-one}
 use lib.ListN.{length, take}
 use lib.Seq.{length-take-le, take-suc, take-all}
-use Rattle.text.specs.Prints.{Put, put-none, put-then}
-use Rattle.text.proofs.print.put_text.Statement.{statement}
-use Rattle.text.proofs.print.put_text.Tie as tie
+use Rattle.printing.specs.Prints.{Put, put-none, put-then}
+use Rattle.printing.proofs.put_text.Statement.{statement}
+use Rattle.printing.proofs.put_text.Tie as tie
 
 abbrev Inv-loop : tie.InvT-loop
 Inv-loop buf₀ at text next₀ i₀ i-end buf next i = (i ≤ length text) × (i-end ≡ length text) × Put buf₀ at (take i text) buf next

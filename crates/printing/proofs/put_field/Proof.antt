@@ -1,11 +1,11 @@
 -- A number has at most ten digits, and the byte stands behind them.
 -- Assumes nothing.
 use native.Mathlib.Omega.{arith}
-use Rattle.text.specs.Printed.{field}
-use Rattle.text.specs.Prints.{put-then, decimal-short}
+use Rattle.printing.specs.Printed.{field}
+use Rattle.printing.specs.Prints.{put-then, decimal-short}
 use borrow.Author.Needs.{needs}
-use Rattle.text.proofs.print.put_field.Statement.{statement}
-use Rattle.text.proofs.print.put_field.Tie as tie
+use Rattle.printing.proofs.put_field.Statement.{statement}
+use Rattle.printing.proofs.put_field.Tie as tie
 
 put-number-requires : tie.Need-put-number-requires
 put-number-requires c κs = omega (arith, decimal-short (c .before .before .args .number) (omega arith))

@@ -1,12 +1,12 @@
 // Printed lines, put into a buffer that the caller lends, one behind the other. Each function returns where its text ends.
-use crate::NEWLINE;
-use crate::SPACE;
+use text::NEWLINE;
+use text::SPACE;
 ghost use Prim.Native.Nat.{_+_, _<_, _≤_};
 ghost use mathlib.Core.Path.{_≡_};
 ghost use mathlib.Core.List.{[], _∷_};
 ghost use lib.ListN.{length};
-ghost use Rattle.text.specs.Printed.{digit, decimal, field, headerLine, cellLine, refusedLine, unreadableLine, heldLine};
-ghost use Rattle.text.specs.Prints.{Put};
+ghost use Rattle.printing.specs.Printed.{digit, decimal, field, headerLine, cellLine, refusedLine, unreadableLine, heldLine};
+ghost use Rattle.printing.specs.Prints.{Put};
 
 pub fn put_header(buf: &mut [u8], at: usize) -> usize
     requires { ⌜ at + 60 ≤ length (now buf) ⌝ }

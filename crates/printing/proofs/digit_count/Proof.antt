@@ -3,9 +3,9 @@
 use native.Mathlib.Omega.{arith}
 use lib.ListN.{length}
 use mathlib.Core.Path.{ap, sym}
-use Rattle.text.specs.Prints.{decimal-one, decimal-count}
-use Rattle.text.proofs.print.digit_count.Statement.{statement}
-use Rattle.text.proofs.print.digit_count.Tie as tie
+use Rattle.printing.specs.Prints.{decimal-one, decimal-count}
+use Rattle.printing.proofs.digit_count.Statement.{statement}
+use Rattle.printing.proofs.digit_count.Tie as tie
 
 returns : tie.Need-returns
 returns c = sym (ap length (decimal-one (c .before .args .number) (c .if1 .taken)))

@@ -1,9 +1,9 @@
 -- One store, and the place behind it.
 -- Assumes nothing.
-use Rattle.text.specs.Prints.{put-byte}
+use Rattle.printing.specs.Prints.{put-byte}
 use borrow.Author.Needs.{needs}
-use Rattle.text.proofs.print.put_byte.Statement.{statement}
-use Rattle.text.proofs.print.put_byte.Tie as tie
+use Rattle.printing.proofs.put_byte.Statement.{statement}
+use Rattle.printing.proofs.put_byte.Tie as tie
 
 slice-write-buf : tie.Need-slice-write-buf
 slice-write-buf c = search needs
