@@ -37,7 +37,7 @@ pub fn goals(slots: &[(Setting, Times)], lines: Option<&[Lines]>) -> Vec<Goal> {
 fn of_slot((s, t): &(Setting, Times)) -> Goal {
     let is_large = s.ports == 16;
     let (time, apart) = if is_large {
-        (t.without_passes(s.ports), ", exhale's passes apart")
+        (t.without_exhale(), ", exhale's passes apart")
     } else {
         (t.proved.median, "")
     };

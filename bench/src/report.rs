@@ -136,23 +136,23 @@ fn goal_table(slots: &[Row], lines: Option<&[Lines]>) -> String {
 }
 
 const PARTS: &str = "\
-The library has no calls for the parts, so they are told by calls that stop early, from the same states. *Fit check*: a call refused with 5,\n\
-the arrivals being a word short; it has looked at the sizes and at every record. *Other checks*: a call refused with 6 at the last input, less\n\
-that; the count of live cells for number 8 is not in it, since only a fuller table would be refused there. *Exhale's passes*: from\n\
-the ready cells as the phases leave them, with none waiting or coming, what a slot costs more than one with the same records on a switch of one\n\
-port, by 16 / 15: each output but the first costs a pass over the table more, and next to nothing else.\n\
-*The rest* is what remains of the whole: the count of live cells, the inhale, the reading and the picking. A part below zero is lost in the noise.\n\n";
+The parts of the proved slot as calls of their own (`crates/parts`), each from the states as the parts before it leave them. *Reading*: how many ready\n\
+cells each output has. *Picking*: the phases, with the lining up of the queues. *Exhale*: its passes, one for each output. What the parts lack of\n\
+the whole are the other checks, and what it costs that they come one after the other.\n\n";
 
 /// Of the large switch at speedup 3.
 fn part_table(slots: &[Row]) -> String {
     let columns = [
         "live",
         "fit check",
-        "other checks",
-        "the rest",
-        "exhale's passes",
+        "count of live cells",
+        "inhale",
+        "reading",
+        "picking",
+        "exhale",
+        "all parts",
         "whole",
-        "without exhale's passes",
+        "whole less exhale",
         "fastest",
         "ratio",
     ];
@@ -160,14 +160,19 @@ fn part_table(slots: &[Row]) -> String {
         .iter()
         .filter(|(s, _)| (s.ports, s.speedup) == (16, 3));
     let rows = large.map(|(s, t)| {
-        let (fit, checks) = (t.fit.median, t.checks.median);
-        let (without, fastest) = (t.without_passes(s.ports), t.fastest.median);
+        let p = &t.parts;
+        let picking = p.phases.median - p.reading.median;
+        let all = [p.fit, p.live, p.inhale, p.phases, p.exhale].map(|part| part.median);
+        let (without, fastest) = (t.without_exhale(), t.fastest.median);
         format!(
-            "{} | {fit:.0} | {:.0} | {:.0} | {:.0} | {:.0} | {without:.0} | {fastest:.0} | {:.2}",
+            "{} | {:.0} | {:.0} | {:.0} | {:.0} | {picking:.0} | {:.0} | {:.0} | {:.0} | {without:.0} | {fastest:.0} | {:.2}",
             s.live,
-            checks - fit,
-            without - checks,
-            t.passes(s.ports),
+            p.fit.median,
+            p.live.median,
+            p.inhale.median,
+            p.reading.median,
+            p.exhale.median,
+            all.iter().sum::<f64>(),
             t.proved.median,
             without / fastest
         )

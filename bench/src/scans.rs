@@ -15,17 +15,12 @@ pub fn slot(call: Call) -> u32 {
     if number != 0 {
         return number;
     }
-    up_to_exhale(w, call.table, call.arrivals, call.matches);
+    inhale(w, call.table, call.arrivals);
+    let readings = read(call.table);
+    transfers(w, call.table, call.matches, &readings);
     exhale(call.table, call.exhaled);
     call.numbers[2] += 1;
     0
-}
-
-/// All that an accepted slot does before its exhale.
-pub fn up_to_exhale(w: Numbers, table: &mut [u32], arrivals: &[u32], matches: &mut [u32]) {
-    inhale(w, table, arrivals);
-    let readings = read(table);
-    transfers(w, table, matches, &readings);
 }
 
 fn check(w: Numbers, call: &Call) -> u32 {
@@ -113,7 +108,7 @@ fn first_candidate(table: &[u32], readings: &Readings, inputs: u16, outputs: u16
 }
 
 /// A pass over the table for each output.
-pub fn exhale(table: &mut [u32], exhaled: &mut [u32]) {
+fn exhale(table: &mut [u32], exhaled: &mut [u32]) {
     for (output, words) in (0..).zip(exhaled.chunks_exact_mut(4)) {
         let Some(k) = oldest_ready(table, output) else {
             words.fill(0);

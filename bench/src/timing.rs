@@ -3,9 +3,8 @@
 use std::hint::black_box;
 use std::time::Instant;
 
-use bench::checks::{Numbers, MOST_PORTS, WAITING, WIDTH};
 use bench::states::{states, Setting, State, STATES};
-use bench::{proved, ranked, scans, Call, SlotFn};
+use bench::{parts, proved, ranked, scans, Call, SlotFn};
 
 /// Every setting is come back to so many times, so that a slow while of the machine meets them all.
 const PASSES: usize = 9;
@@ -36,88 +35,80 @@ pub struct Times {
     pub proved: Time,
     pub scans: Time,
     pub fastest: Time,
-    /// The proved slot up to a refusal with 5, and with 6 at the last input.
-    pub fit: Time,
-    pub checks: Time,
-    /// The proved slot where cells leave and nothing else happens, on the switch and on one of one port.
-    pub leaving: Time,
-    pub leaving_by_one: Time,
+    pub parts: Parts,
     /// One read of the table.
     pub read: Time,
 }
 
-impl Times {
-    /// The exhale's passes, one for each of so many outputs.
-    pub fn passes(&self, ports: u32) -> f64 {
-        let ports = f64::from(ports);
-        (self.leaving.median - self.leaving_by_one.median) * ports / (ports - 1.0)
-    }
-
-    pub fn without_passes(&self, ports: u32) -> f64 {
-        self.proved.median - self.passes(ports)
-    }
-}
-
-/// From which states a function is timed.
+/// The parts of the proved slot, called one by one.
 #[derive(Clone, Copy)]
-enum From {
-    States,
-    Leaving,
-    LeavingByOne,
+pub struct Parts {
+    pub fit: Time,
+    pub live: Time,
+    pub inhale: Time,
+    pub reading: Time,
+    /// With the reading.
+    pub phases: Time,
+    pub exhale: Time,
 }
 
-/// What is timed, and the number that it gives.
+impl Times {
+    pub fn without_exhale(&self) -> f64 {
+        self.proved.median - self.parts.exhale.median
+    }
+}
+
+/// How far the slot of the states has come where a function is timed.
+#[derive(Clone, Copy)]
+enum After {
+    Nothing,
+    Inhale,
+    Phases,
+}
+
+/// What is timed; it gives 0.
 struct Timed {
     slot: SlotFn,
-    from: From,
-    number: u32,
+    after: After,
 }
 
 impl Timed {
-    const fn slot(slot: SlotFn, number: u32) -> Timed {
-        Timed {
-            slot,
-            from: From::States,
-            number,
-        }
+    const fn slot(slot: SlotFn) -> Timed {
+        Timed::part(After::Nothing, slot)
     }
 
-    const fn from(from: From) -> Timed {
-        Timed {
-            slot: proved,
-            from,
-            number: 0,
-        }
+    const fn part(after: After, slot: SlotFn) -> Timed {
+        Timed { slot, after }
     }
 }
 
-const TIMED: [Timed; 8] = [
-    Timed::slot(proved, 0),
-    Timed::slot(scans::slot, 0),
-    Timed::slot(ranked::slot, 0),
-    Timed::slot(|call| proved(one_word_short(call)), 5),
-    Timed::slot(|call| proved(no_such_output(call)), 6),
-    Timed::from(From::Leaving),
-    Timed::from(From::LeavingByOne),
-    Timed::slot(read, 0),
+const TIMED: [Timed; 10] = [
+    Timed::slot(proved),
+    Timed::slot(scans::slot),
+    Timed::slot(ranked::slot),
+    Timed::part(After::Nothing, |call| u32::from(!parts::fit(&call))),
+    Timed::part(After::Nothing, |call| {
+        black_box(parts::live(&call));
+        0
+    }),
+    Timed::part(After::Nothing, |mut call| {
+        parts::inhale(&mut call);
+        0
+    }),
+    Timed::part(After::Inhale, |call| {
+        black_box(parts::reading(&call));
+        0
+    }),
+    Timed::part(After::Inhale, |mut call| {
+        parts::phases(&mut call);
+        0
+    }),
+    Timed::part(After::Phases, |mut call| {
+        parts::exhale(&mut call);
+        0
+    }),
+    Timed::slot(read),
 ];
-
-fn one_word_short(call: Call) -> Call {
-    let arrivals = &call.arrivals[1..];
-    Call { arrivals, ..call }
-}
-
-/// The last arrival is for an output that no switch has.
-fn no_such_output(call: Call) -> Call {
-    const LENGTH: usize = 2 * MOST_PORTS;
-    const WRONG: &[u32; LENGTH] = &{
-        let mut wrong = [0; LENGTH];
-        wrong[LENGTH - 2] = u32::MAX;
-        wrong
-    };
-    let arrivals = &WRONG[LENGTH - call.arrivals.len()..];
-    Call { arrivals, ..call }
-}
 
 fn read(call: Call) -> u32 {
     let words = call.table.iter();
@@ -136,19 +127,20 @@ pub fn time(settings: &[Setting]) -> Vec<Times> {
 /// The states of one setting, and what was measured on them so far.
 struct Clock {
     states: Batch,
-    leaving: Batch,
-    leaving_by_one: Batch,
+    inhaled: Batch,
+    moved: Batch,
     samples: [Vec<f64>; TIMED.len()],
 }
 
 impl Clock {
     fn of(setting: Setting) -> Clock {
         let states = states(setting);
-        let leaving: Vec<State> = states.iter().cloned().map(leaving).collect();
+        let inhaled = each(&states, parts::inhale);
+        let moved = each(&inhaled, parts::phases);
         Clock {
-            leaving_by_one: Batch::of(leaving.iter().cloned().map(by_one_port).collect()),
-            leaving: Batch::of(leaving),
             states: Batch::of(states),
+            inhaled: Batch::of(inhaled),
+            moved: Batch::of(moved),
             samples: Default::default(),
         }
     }
@@ -156,10 +148,10 @@ impl Clock {
     fn pass(&mut self) {
         for _ in 0..ROUNDS {
             for (timed, samples) in TIMED.iter().zip(&mut self.samples) {
-                let batch = match timed.from {
-                    From::States => &mut self.states,
-                    From::Leaving => &mut self.leaving,
-                    From::LeavingByOne => &mut self.leaving_by_one,
+                let batch = match timed.after {
+                    After::Nothing => &mut self.states,
+                    After::Inhale => &mut self.inhaled,
+                    After::Phases => &mut self.moved,
                 };
                 samples.push(nanoseconds(timed, batch.restored()));
             }
@@ -167,46 +159,30 @@ impl Clock {
     }
 
     fn times(self) -> Times {
-        let [proved, scans, fastest, fit, checks, leaving, leaving_by_one, read] =
+        let [proved, scans, fastest, fit, live, inhale, reading, phases, exhale, read] =
             self.samples.map(Time::of);
         Times {
             proved,
             scans,
             fastest,
-            fit,
-            checks,
-            leaving,
-            leaving_by_one,
+            parts: Parts {
+                fit,
+                live,
+                inhale,
+                reading,
+                phases,
+                exhale,
+            },
             read,
         }
     }
 }
 
-/// In the next slot, the ready cells as the phases of the state's slot leave them, and nothing else: no cell waits and
-/// none comes.
-fn leaving(mut s: State) -> State {
-    let w = Numbers::of(&s.numbers);
-    scans::up_to_exhale(w, &mut s.table, &s.arrivals, &mut s.matches);
-    let cells = s.table.chunks_exact_mut(WIDTH);
-    for cell in cells.filter(|cell| cell[0] == WAITING) {
-        cell.fill(0);
-    }
-    s.arrivals.fill(0);
-    s.numbers[2] += 1;
-    s
-}
-
-/// The same cells in the same records, all from one input to one output, on a switch of one port.
-fn by_one_port(mut s: State) -> State {
-    let cells = s.table.chunks_exact_mut(WIDTH);
-    for (cell, slot) in cells.filter(|cell| cell[0] != 0).zip(0..) {
-        [cell[1], cell[2], cell[3]] = [0, 0, slot];
-    }
-    s.numbers[0] = 1;
-    s.arrivals.truncate(2);
-    s.matches.truncate(s.numbers[1] as usize);
-    s.exhaled.truncate(4);
-    s
+/// The states as a part of their slot leaves them.
+fn each(states: &[State], part: fn(&mut Call)) -> Vec<State> {
+    let mut after = states.to_vec();
+    after.iter_mut().for_each(|s| part(&mut s.call()));
+    after
 }
 
 /// States, and a copy of each to work on.
@@ -236,7 +212,7 @@ impl Batch {
 fn nanoseconds(timed: &Timed, work: &mut [State]) -> f64 {
     let start = Instant::now();
     for s in work {
-        assert_eq!(black_box(timed.slot)(s.call()), timed.number);
+        assert_eq!(black_box(timed.slot)(s.call()), 0);
     }
     start.elapsed().as_nanos() as f64 / STATES as f64
 }

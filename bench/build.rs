@@ -1,0 +1,23 @@
+//! Finds the proved parts of a slot, libparts.a: in the repository's target/staticlib, or in the folder that
+//! TREIKWATER_LIBRARY names.
+
+use std::env;
+use std::path::{Path, PathBuf};
+
+const PLACE: &str = "TREIKWATER_LIBRARY";
+
+fn main() {
+    let folder = env::var_os(PLACE).map_or_else(
+        || Path::new(env!("CARGO_MANIFEST_DIR")).join("../target/staticlib"),
+        PathBuf::from,
+    );
+    let library = folder.join("libparts.a");
+    println!("cargo:rerun-if-env-changed={PLACE}");
+    println!("cargo:rerun-if-changed={}", library.display());
+    assert!(
+        library.exists(),
+        "there is no libparts.a: make it by `rt staticlib parts`, or set {PLACE} to its folder"
+    );
+    println!("cargo:rustc-link-search=native={}", folder.display());
+    println!("cargo:rustc-link-lib=static=parts");
+}
