@@ -11,11 +11,11 @@ use Rattle.laws.specs.Folds.{fold, each}
 use Rattle.rules.specs.Calls.{State}
 use Rattle.text.specs.declared.FirstLine.{FirstLine}
 use Rattle.text.specs.declared.FirstReader.{FirstReader}
-use Rattle.text.specs.Lines.{ahead, cut, isSlotLine, slotWords}
+use Rattle.text.specs.Lines.{newline, ahead, cut, isSlotLine, slotWords}
 use Rattle.text.specs.Fields.{cut-some}
 use Rattle.text.specs.Steps.{Slot, slotStart, endField, slotStep, isWhole, firstStart, firstStep, firstAnswer}
 use Rattle.text.specs.Reading.{Reads, first-law, slot-law}
-use Rattle.desk.specs.Program.{newline, linesOf, endText, lineText, lineAfter, slotsText, firstText, openingText}
+use Rattle.desk.specs.Program.{linesOf, endText, lineText, lineAfter, slotsText, firstText, openingText}
 use Rattle.desk.specs.Coming.{openingFrom, lineEnd, lineFrom}
 
 -- a byte that ends no line, and one that does -----------------------------------------------

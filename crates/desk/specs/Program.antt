@@ -12,11 +12,8 @@ use Rattle.rules.specs.Answers.{numberOf, isDone, exhaledWidth, live}
 use Rattle.rules.specs.Calls.{Started, freshStart, Outcome, slot, State}
 use Rattle.text.specs.declared.FirstLine.{FirstLine}
 use Rattle.text.specs.declared.FirstLine.the-variants.{Numbers, Unreadable}
-use Rattle.text.specs.Lines.{cut, isEmpty, firstLine, isSlotLine, slotWords}
+use Rattle.text.specs.Lines.{newline, cut, isEmpty, firstLine, isSlotLine, slotWords}
 use Rattle.printing.specs.Printed.{headerLine, cellLine, refusedLine, unreadableLine, heldLine}
-
-abbrev pub newline : ℕ
-newline = 10
 
 -- "a line ends with a newline": the lines, and last what stands after the last newline
 unfoldable pub linesOf : List ℕ → List (List ℕ)

@@ -1,31 +1,32 @@
 -- Slot lines, and the turns that the program's functions take: a text put into the buffer, and the stand that prints the rest.
 -- Assumes nothing.
-use Prim.Native.Nat.{ℕ, _+_, _*_, _≤_, _<_}
+use Prim.Native.Nat.{ℕ, _+_, _*_, _≤_}
 use mathlib.Core.Path.{_≡_, refl, sym, ap, subst, _∙_}
 use mathlib.Core.Bool.{Bool, So, true, false, cond}
 use mathlib.Core.List.{List, [], _∷_, _++_, append-assoc, append-nil}
 use native.Mathlib.Omega.{arith}
-use native.Mathlib.Numerals.{add-one}
 use native.Mathlib.Nat.{mul-le-mul}
-use lib.ListN.{length, getD, take, drop, replicate}
-use lib.Seq.{length-take-le, take-at, drop-cons}
+use lib.ListN.{length, take, drop, replicate}
+use lib.Seq.{length-take-le, take-at}
 use Rattle.laws.specs.Tests.{No, cond-true, cond-false}
 use Rattle.rules.specs.declared.Switch.{Switch}
 use Rattle.laws.specs.Count.{count-le}
 use Rattle.laws.specs.Lists.{blocks-zero, blocks-more}
+use Rattle.laws.specs.Pieces.{part, part-rest}
 use Rattle.rules.specs.Cells.{nth, isLive, records, cellsOf}
 use Rattle.rules.specs.Answers.{numberOf, isDone, live, slotAnswer}
 use Rattle.rules.specs.Calls.{State, Outcome, slot, slotRuns, slotRefused}
 use Rattle.ideal.specs.Words.{length-cellsOf}
 use Rattle.text.specs.declared.SlotReader.{SlotReader}
 use Rattle.text.specs.Steps.{Slot, slotOf, readerStart, endField, slotStep, isWhole}
-use Rattle.text.specs.Parts.{part, endsLine, Taken, part-rest}
+use Rattle.text.specs.Lines.{newline}
+use Rattle.text.specs.Parts.{endsLine, Taken}
 use Rattle.printing.specs.Printed.{refusedLine}
 use Rattle.printing.specs.Prints.{Put, put-none, put-then}
 use Rattle.desk.specs.declared.Running.{Running}
 use Rattle.desk.specs.declared.Desk.{Desk}
 use Rattle.desk.specs.declared.Desk.the-variants.{Between, Within, Over}
-use Rattle.desk.specs.Program.{newline, linesOf, endText, cellText, slotText, slotOn, lineText, lineAfter, slotsText}
+use Rattle.desk.specs.Program.{linesOf, endText, cellText, slotText, slotOn, lineText, lineAfter, slotsText}
 use Rattle.desk.specs.Coming.{stateOf, lineWords, lineEnd, lineFrom, Stand, stand, comingBy, coming, Sizes, Inside, Turns, Goes}
 use Rattle.desk.specs.Bytes.{line-bytes, line-end, between}
 
@@ -165,23 +166,6 @@ module _ (x : Running) (r : SlotReader) (table arrivals out : List ℕ) (at : �
 pub goes-none : (s : Stand) (unread out : List ℕ) (at : ℕ) → Inside (s .desk) → Goes s unread out at s unread out at
 goes-none s unread out at i = record { text = []; put = put-none out at; comes = λ rest. refl; inside = i }
 
--- one byte more of what is unread
-pub goes-byte : {s a c : Stand} {unread left out mid new : List ℕ} {at p q : ℕ} (b : ℕ) (rest : List ℕ) → left ≡ b ∷ rest
-    → Goes s unread out at a left mid p → Turns (λ more. coming a (b ∷ more)) mid p c new q → Goes s unread out at c rest new q
-goes-byte {a = a} {c = c} b rest e x y = record {
-  text = x .text ++ y .text;
-  put = put-then (x .put) (y .put);
-  comes = λ more.
-      x .comes more
-      ∙ ap (λ (l : List ℕ). x .text ++ coming a (l ++ more)) e
-      ∙ ap (λ (l : List ℕ). x .text ++ l) (y .comes (rest ++ more))
-      ∙ sym (append-assoc (x .text) (y .text) (coming c (rest ++ more)));
-  inside = y .inside;
-}
-
-pub drop-next : (piece : List ℕ) (n b : ℕ) → n < length piece → getD piece n 0 ≡ b → drop n piece ≡ b ∷ drop (n + 1) piece
-drop-next piece n b h e = rw (add-one n, ← e) (drop-cons piece n 0 h)
-
 -- two ways, one behind the other
 pub goes-then : {s a c : Stand} {unread left rest out mid new : List ℕ} {at p q : ℕ} → Goes s unread out at a left mid p → Goes a left mid p c rest new q → Goes s unread out at c rest new q
 goes-then {c = c} {rest = rest} x y = record {
@@ -190,6 +174,12 @@ goes-then {c = c} {rest = rest} x y = record {
   comes = λ more. x .comes more ∙ ap (λ (l : List ℕ). x .text ++ l) (y .comes more) ∙ sym (append-assoc (x .text) (y .text) (coming c (rest ++ more)));
   inside = y .inside;
 }
+
+-- one byte more of what is unread
+pub goes-byte : {s a c : Stand} {unread left out mid new : List ℕ} {at p q : ℕ} (b : ℕ) (rest : List ℕ) → left ≡ b ∷ rest
+    → Goes s unread out at a left mid p → Turns (λ more. coming a (b ∷ more)) mid p c new q → Goes s unread out at c rest new q
+goes-byte {a = a} b rest e x y =
+    goes-then x (record { text = y .text; put = y .put; comes = λ more. ap (λ (l : List ℕ). coming a (l ++ more)) e ∙ y .comes (rest ++ more); inside = y .inside })
 
 -- the end of the reading takes any input
 pub goes-over : (table arrivals unread unread′ out : List ℕ) (at : ℕ) → Goes (stand Over table arrivals) unread out at (stand Over table arrivals) unread′ out at

@@ -13,9 +13,10 @@ ghost use mathlib.Core.List.{List, _∷_, _++_};
 ghost use lib.ListN.{length, take, drop, replicate};
 ghost use Rattle.text.specs.declared.FirstLine.the-variants.{Numbers};
 ghost use Rattle.printing.specs.Prints.{Put};
+ghost use Rattle.text.specs.Lines.{newline};
 ghost use Rattle.text.specs.Steps.{firstStart, slotOf};
 ghost use Rattle.desk.specs.declared.Desk.the-variants.{First, Within};
-ghost use Rattle.desk.specs.Program.{newline, linesOf, cellText, slotText, heldText, endText, lineText, lineAfter, slotsText, firstText};
+ghost use Rattle.desk.specs.Program.{linesOf, cellText, slotText, heldText, endText, lineText, lineAfter, slotsText, firstText};
 ghost use Rattle.desk.specs.Coming.{lentWords, stateOf, lineWords, openingFrom, lineFrom, stand, closing, isOver, Sizes, Inside, Turns, Goes};
 
 // One record more than the largest table: a longer one that is asked for is refused by the switch itself.

@@ -8,4 +8,6 @@ pub mod First
 pub mod Lists
 pub mod Noted
 pub mod Folds
+pub mod Pieces
+pub mod Bits
 pub mod Texts

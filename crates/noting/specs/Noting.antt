@@ -1,13 +1,13 @@
 -- What may be left out of a pass over a stretch of the table: records whose places have none of the bits that are asked for, and whole blocks of them.
 -- Assumes nothing.
 use Prim.Native.Nat.{ℕ, _+_, _-_, _*_, _≤_, _<_}
-use mathlib.Core.Path.{_≡_, sym, ap, _∙_}
+use mathlib.Core.Path.{_≡_, ap, _∙_}
 use mathlib.Core.Bool.{not}
 use mathlib.Core.List.{List}
 use native.Mathlib.Omega.{arith}
 use borrow.Author.Tests.{eqb-true}
 use native.Mathlib.Numerals.{add-one}
-use lib.Bits.{bitOr, or-add-and, bitAnd, and-le-l, and-le-r, and-self}
+use lib.Bits.{bitAnd}
 use lib.Dec.{eqb}
 use lib.ListN.{getD}
 use Rattle.laws.specs.Tests.{No, to-so}
@@ -15,10 +15,6 @@ use Rattle.laws.specs.Noted.{Noted, Eight, past, to-noted, to-end}
 use Rattle.rules.specs.declared.Cell.{Cell}
 use Rattle.rules.specs.Cells.{nth, width, records, cellsOf}
 use Rattle.ideal.specs.Words.{nth-cellsOf}
-
--- an or that is 0
-pub or-none : (a b : ℕ) → bitOr a b ≡ 0 → (a ≡ 0) × (b ≡ 0)
-or-none a b e = (omega (arith, or-add-and a b, and-le-r a b), omega (arith, or-add-and a b, and-le-l a b))
 
 -- the place of record x of the stretch that begins at record k has none of `bits`
 abbrev pub Lacks : List ℕ → ℕ → ℕ → ℕ → Type 0
@@ -38,10 +34,6 @@ module _ (ws : List ℕ) (k bits : ℕ) where
   block-lacks b r h q j l =
       let e : k + b * 8 + j ≡ k + (b * 8 + j) = omega arith in
       rw e at (h (eqb-true r 0 (to-so (eqb r 0) q)) j l)
-
--- a place that lacks the bits of another is not that one
-pub lacks-other : (p bits : ℕ) → 0 < bits → bitAnd p bits ≡ 0 → p ≡ bits → ⊥
-lacks-other p bits l h e = omega (arith, sym (and-self bits) ∙ ap (λ (q : ℕ). bitAnd q bits) (sym e) ∙ h)
 
 -- A walk over what is noted of a stretch, from its first record to its end: what holds of the records below k, and is kept by each that lacks the
 -- bits, is brought to the next record noted and from the last one to the end.

@@ -12,13 +12,14 @@ use lib.Dec.{eqb, ltb}
 use lib.ListN.{length, getD, take, drop, length-drop}
 use lib.Seq.{getD-take, getD-drop, length-take-le}
 use borrow.Author.Tests.{eqb-true, eqb-false, eq-eqb, ltb-true, ltb-false}
+use Rattle.laws.specs.Bits.{or-none}
 use Rattle.laws.specs.Tests.{No, both, passes, to-no, to-so, cond-true}
 use Rattle.laws.specs.Noted.{Noted, Eight, past, eights-between, eights-behind}
 use Rattle.rules.specs.declared.Cell.{Cell}
 use Rattle.rules.specs.declared.Slot.{Slot}
 use Rattle.rules.specs.Cells.{free, nth, isFree, isLive, isBlank, isSound, width, records, cellsOf}
 use Rattle.ideal.specs.Words.{nth-cellsOf, in-words}
-use Rattle.noting.specs.Noting.{or-none, BlockLacks}
+use Rattle.noting.specs.Noting.{BlockLacks}
 
 -- r is 0 only where every word is
 pub record OrOf (ws : List ℕ) (r : ℕ) : Type 0 where

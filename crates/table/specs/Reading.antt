@@ -16,13 +16,14 @@ use Rattle.laws.specs.Tests.{No, both, passes, to-no}
 use Rattle.laws.specs.Count.{bit, count, count-zero, count-suc, count-le}
 use Rattle.laws.specs.Lists.{tabulate, length-tabulate, getD-tabulate, tabulate-same, tabulate-getD, set-tabulate}
 use Rattle.laws.specs.Least.{least, least-more, sooner-skip}
+use Rattle.laws.specs.Bits.{and-none}
 use Rattle.laws.specs.Noted.{Noted, past}
 use Rattle.laws.specs.declared.Found.{Found}
 use Rattle.rules.specs.declared.Cell.{Cell}
 use Rattle.rules.specs.declared.Output.{Output}
 use Rattle.rules.specs.Cells.{mostPorts, outputOf, nth, cellsOf, isReady, sameOutput, isReadyFor, older}
 use Rattle.rules.specs.Phases.{readyCount, readings}
-use Rattle.noting.specs.Noting.{Lacks, lacks-other, walk-to, walk-end}
+use Rattle.noting.specs.Noting.{Lacks, walk-to, walk-end}
 
 -- a cell that is ready for some output
 unfoldable pub isCounted : Cell → Bool
@@ -122,7 +123,7 @@ module _ (cs : List Cell) where
 -- over what is noted of a stretch: the records that are not noted are not ready
 module _ (ws : List ℕ) {list : List ℕ} {k end m : ℕ} (d : Noted (Lacks ws k 2) list m (end - k)) (l : k ≤ end) (ns : List ℕ) where
   keeps : (x : ℕ) → k ≤ x → x < end → bitAnd (nth (cellsOf ws) x .place) 2 ≡ 0 → ns ≡ readingsBelow (cellsOf ws) x → ns ≡ readingsBelow (cellsOf ws) (x + 1)
-  keeps x f i h e = e ∙ readings-skip (cellsOf ws) x (lacks-other _ 2 (omega arith) h)
+  keeps x f i h e = e ∙ readings-skip (cellsOf ws) x (and-none _ 2 (omega arith) h)
 
   pub readings-to : (j : ℕ) → j < m → ns ≡ readingsBelow (cellsOf ws) (k + past list j) → ns ≡ readingsBelow (cellsOf ws) (k + getD list j 0)
   readings-to = walk-to ws 2 d l (λ (x : ℕ). ns ≡ readingsBelow (cellsOf ws) x) keeps
@@ -140,7 +141,7 @@ oldest-skip cs o k h = sym (least-more _ _ k ∙ sooner-skip _ k (oldestBelow cs
 
 module _ (ws : List ℕ) {list : List ℕ} {k end m : ℕ} (d : Noted (Lacks ws k 2) list m (end - k)) (l : k ≤ end) (o : Output) (found : Found) where
   holds : (x : ℕ) → k ≤ x → x < end → bitAnd (nth (cellsOf ws) x .place) 2 ≡ 0 → found ≡ oldestBelow (cellsOf ws) o x → found ≡ oldestBelow (cellsOf ws) o (x + 1)
-  holds x f i h e = e ∙ oldest-skip (cellsOf ws) o x (lacks-other _ 2 (omega arith) h)
+  holds x f i h e = e ∙ oldest-skip (cellsOf ws) o x (and-none _ 2 (omega arith) h)
 
   pub oldest-to : (j : ℕ) → j < m → found ≡ oldestBelow (cellsOf ws) o (k + past list j) → found ≡ oldestBelow (cellsOf ws) o (k + getD list j 0)
   oldest-to = walk-to ws 2 d l (λ (x : ℕ). found ≡ oldestBelow (cellsOf ws) o x) holds

@@ -15,6 +15,9 @@ use Rattle.text.specs.declared.FirstLine.the-variants.{Numbers, Unreadab
 abbrev pub space : ℕ
 space = 32
 
+abbrev pub newline : ℕ
+newline = 10
+
 abbrev pub dash : ℕ
 dash = 45
 

@@ -5,30 +5,23 @@ use Prim.Native.Nat.{ℕ, _+_, _-_, _≤_, _<_}
 use mathlib.Core.Path.{_≡_, refl, sym, ap, _∙_}
 use mathlib.Core.Logic.{⊎-elim}
 use mathlib.Core.Bool.{Bool, So, true, false, not, _||_}
-use mathlib.Core.List.{List, [], _∷_, _++_}
+use mathlib.Core.List.{List, [], _∷_}
 use native.Mathlib.Omega.{arith}
 use lib.Dec.{eqb}
-use lib.ListN.{length, getD, take, drop, take-append-drop}
-use lib.Seq.{drop-cons, drop-drop, take-add}
+use lib.ListN.{length, getD}
 use borrow.Author.Tests.{eqb-true, eq-eqb, ne-eqb}
-use Rattle.laws.specs.Tests.{No, both, join, either, on-right, neither, refuted, denied, deny}
-use Rattle.laws.specs.Folds.{fold, each, fold-more, each-more}
+use Rattle.laws.specs.Tests.{No, both, either, on-right, neither, refuted, denied, deny}
+use Rattle.laws.specs.Folds.{fold, fold-join, fold-more, each, each-join, each-more, each-as}
+use Rattle.laws.specs.Pieces.{part, part-none, part-join, part-more, part-first}
 use Rattle.text.specs.declared.Number.{Number}
 use Rattle.text.specs.declared.Number.the-variants.{Empty, Value, NoNumber}
 use Rattle.text.specs.declared.Field.{Field}
 use Rattle.text.specs.declared.Field.the-variants.{Start, Dash, Output, Tag, NoField}
 use Rattle.text.specs.declared.SlotReader.{SlotReader}
-use Rattle.text.specs.Lines.{space, dash, colon, isDigit}
+use Rattle.text.specs.Lines.{space, newline, dash, colon, isDigit}
 use Rattle.text.specs.Steps.{grown, numberStep, colonStep, outputStep, fieldStep, Slot, slot, slotOf, endField, slotStep}
 use Rattle.text.specs.Numbers.{none-stays}
 use Rattle.text.specs.Fields.{broken-stays, tag-steps}
-
-abbrev pub newline : ℕ
-newline = 10
-
--- the bytes of a piece from one place up to another
-unfoldable pub part : List ℕ → ℕ → ℕ → List ℕ
-part piece i j = take (j - i) (drop i piece)
 
 -- what ends a field, and a number that may end at `stop` too
 unfoldable pub ends : ℕ → ℕ → Bool
@@ -62,53 +55,6 @@ pub record Taken {S : Type 0} (step : S → ℕ → S) (end : ℕ → Bool) (pie
 pub record Grows (piece : List ℕ) (v from v′ next : ℕ) : Type 0 where
   pub digits : Passed numberStep isDigit piece (Value v) from (Value v′) next
   pub here : next < length piece → grown v′ (getD piece next 0) ≡ NoNumber
-
--- parts ---------------------------------------------------------------------------------------
-
-part-none : (piece : List ℕ) (i : ℕ) → part piece i i ≡ []
-unfolding part
-part-none piece i = ap (λ (n : ℕ). take n (drop i piece)) {x = i - i} {y = 0} (omega arith)
-
-part-join : (piece : List ℕ) (i j k : ℕ) → i ≤ j → j ≤ k → part piece i k ≡ part piece i j ++ part piece j k
-unfolding part
-part-join piece i j k h l =
-    ap (λ (n : ℕ). take n (drop i piece)) {x = k - i} {y = (j - i) + (k - j)} (omega arith)
-    ∙ take-add (j - i) (k - j) (drop i piece)
-    ∙ ap (λ (m : List ℕ). take (j - i) (drop i piece) ++ take (k - j) m) (drop-drop (j - i) i piece ∙ ap (λ (n : ℕ). drop n piece) {x = i + (j - i)} {y = j} (omega arith))
-
-part-one : (piece : List ℕ) (i : ℕ) → i < length piece → part piece i (i + 1) ≡ getD piece i 0 ∷ []
-unfolding part
-part-one piece i h = ap (λ (n : ℕ). take n (drop i piece)) {x = i + 1 - i} {y = 1} (omega arith) ∙ ap (λ (m : List ℕ). take 1 m) (drop-cons piece i 0 h)
-
-part-more : (piece : List ℕ) (i j : ℕ) → i ≤ j → j < length piece → part piece i (j + 1) ≡ part piece i j ++ (getD piece j 0 ∷ [])
-part-more piece i j h l = part-join piece i j (j + 1) h (omega arith) ∙ ap (λ (m : List ℕ). part piece i j ++ m) (part-one piece j l)
-
-part-first : (piece : List ℕ) (i j : ℕ) → i < j → i < length piece → part piece i j ≡ getD piece i 0 ∷ part piece (i + 1) j
-part-first piece i j h l = part-join piece i (i + 1) j (omega arith) (omega arith) ∙ ap (λ (m : List ℕ). m ++ part piece (i + 1) j) (part-one piece i l)
-
-pub part-rest : (piece : List ℕ) (i j : ℕ) → i ≤ j → drop i piece ≡ part piece i j ++ drop j piece
-unfolding part
-part-rest piece i j h =
-    sym (take-append-drop (j - i) (drop i piece))
-    ∙ ap (λ (m : List ℕ). take (j - i) (drop i piece) ++ m) (drop-drop (j - i) i piece ∙ ap (λ (n : ℕ). drop n piece) {x = i + (j - i)} {y = j} (omega arith))
-
--- steps and tests over lists that are joined
-module _ {S A : Type 0} where
-  fold-join : (f : S → A → S) (s : S) (l m : List A) → fold f s (l ++ m) ≡ fold f (fold f s l) m
-  unfolding fold
-  fold-join f s [] m = refl
-  fold-join f s (a ∷ l) m = fold-join f (f s a) l m
-
-module _ {A : Type 0} where
-  each-join : (p : A → Bool) (l m : List A) → So (each p l) → So (each p m) → So (each p (l ++ m))
-  unfolding each
-  each-join p [] m h k = k
-  each-join p (a ∷ l) m h k = let x = both (p a) (each p l) h in join (p a) (each p (l ++ m)) (x .0) (each-join p l m (x .1) k)
-
-  each-as : (p q : A → Bool) → ((a : A) → So (p a) → So (q a)) → (l : List A) → So (each p l) → So (each q l)
-  unfolding each
-  each-as p q f [] h = refl
-  each-as p q f (a ∷ l) h = let x = both (p a) (each p l) h in join (q a) (each q l) (f a (x .0)) (each-as p q f l (x .1))
 
 -- spans ---------------------------------------------------------------------------------------
 

@@ -4,9 +4,10 @@ use mathlib.Core.Path.{_≡_}
 use native.Mathlib.Omega.{arith}
 use native.Mathlib.Numerals.{add-one}
 use denote.Ref.{now}
+use Rattle.laws.specs.Bits.{or-none}
 use Rattle.laws.specs.Walk.{below-suc}
 use Rattle.ideal.specs.Words.{in-words}
-use Rattle.noting.specs.Noting.{or-none, Lacks, lacks-word}
+use Rattle.noting.specs.Noting.{Lacks, lacks-word}
 use Rattle.noting.proofs.any_of_eight.Statement.{statement}
 use Rattle.noting.proofs.any_of_eight.Tie as tie
 

@@ -5,7 +5,7 @@ use native.Mathlib.Omega.{arith}
 use native.Mathlib.Numerals.{add-one}
 use lib.ListN.{length, getD}
 use Rattle.laws.specs.Walk.{below-suc}
-use Rattle.noting.specs.Noting.{or-none}
+use Rattle.laws.specs.Bits.{or-none}
 use Rattle.table.proofs.or_of.Statement.{statement}
 use Rattle.table.proofs.or_of.Tie as tie
 

@@ -6,7 +6,8 @@ use native.Mathlib.Omega.{arith}
 use lib.ListN.{getD, drop}
 use denote.Ref.{now}
 use Rattle.desk.specs.Coming.{comingBy}
-use Rattle.desk.specs.Turns.{inside-between, inside-within, drop-next, goes-none, goes-byte, goes-over, goes-begins}
+use Rattle.laws.specs.Pieces.{drop-next}
+use Rattle.desk.specs.Turns.{inside-between, inside-within, goes-none, goes-byte, goes-over, goes-begins}
 use borrow.Author.Needs.{needs}
 use Rattle.desk.proofs.Desk.advance.Statement.{statement}
 use Rattle.desk.proofs.Desk.advance.Tie as tie

@@ -8,7 +8,8 @@ use lib.Seq.{length-take-le}
 use borrow.Author.Tests.{eqb-true}
 use denote.Ref.{now}
 use Rattle.desk.specs.Coming.{lineWords, comingBy}
-use Rattle.desk.specs.Turns.{drop-next, goes-byte, goes-line}
+use Rattle.laws.specs.Pieces.{drop-next}
+use Rattle.desk.specs.Turns.{goes-byte, goes-line}
 use borrow.Author.Needs.{needs}
 use Rattle.desk.proofs.Running.advance.Statement.{statement}
 use Rattle.desk.proofs.Running.advance.Tie as tie
