@@ -27,9 +27,13 @@ use Rattle.ideal.specs.Match.{in-add, to-add, self-add, open→, takenIn→, �
 use Rattle.ideal.specs.Phases.{length-moved, moved-yes, moved-no}
 use Rattle.matching.specs.declared.Taken.{Taken}
 
--- a waiting cell whose input and output are in neither set
+-- a waiting cell whose input is not in the one set and whose output is in the other
+unfoldable pub waitsAmong : (ℕ → Bool) → (ℕ → Bool) → Cell → Bool
+waitsAmong ins outs c = isWaiting c && not (ins (c .input .0)) && outs (c .output .0)
+
+-- one whose input and output are in neither set
 unfoldable pub candidate : (ℕ → Bool) → (ℕ → Bool) → Cell → Bool
-candidate ins outs c = isWaiting c && not (ins (c .input .0)) && not (outs (c .output .0))
+candidate ins outs c = waitsAmong ins (λ o. not (outs o)) c
 
 -- of those, the one that stands before the others
 unfoldable pub firstCandidate : List ℕ → (ℕ → Bool) → (ℕ → Bool) → List Cell → Found
@@ -60,7 +64,7 @@ pub record Shows (cs : List Cell) (p : ℕ → Bool) (us : List Cell) (q : Taken
 module _ (cs : List Cell) (p : ℕ → Bool) where
   -- a record is open where it is a candidate by the taken ports
   open-masks : (k : ℕ) → k < length cs → No (p k) → isOpen cs p k ≡ candidate (λ i. isTakenInput p cs (inputOf i)) (λ o. isTakenOutput p cs (outputOf o)) (nth cs k)
-  unfolding isOpen candidate
+  unfolding isOpen candidate waitsAmong
   open-masks k l x = same-test _ _ to from
     where
       to : So (isWaiting (nth cs k) && not (any (λ j. p j && conflict (nth cs j) (nth cs k)) (length cs)))
@@ -87,7 +91,7 @@ module _ (cs : List Cell) (p : ℕ → Bool) where
   picked-shut k l x = to-no (λ h. open→ cs p k h .1 k l x (conflict-self (nth cs k)))
 
   open-moved : (k : ℕ) → k < length cs → candidate (λ i. isTakenInput p cs (inputOf i)) (λ o. isTakenOutput p cs (outputOf o)) (nth (moved p cs) k) ≡ isOpen cs p k
-  unfolding candidate isWaiting
+  unfolding candidate waitsAmong isWaiting
   open-moved k l =
       ⊎-elim
       (λ x. ap (candidate (λ i. isTakenInput p cs (inputOf i)) (λ o. isTakenOutput p cs (outputOf o))) (moved-yes p cs k l x) ∙ sym (picked-shut k l x))
@@ -133,7 +137,7 @@ module _ (r : List ℕ) (cs : List Cell) where
   open-found p k e = least-at (isOpen cs p) (λ i j. before r (nth cs i) (nth cs j)) (length cs) k e
 
 candidate-same : (a b c d : ℕ → Bool) → ((i : ℕ) → a i ≡ b i) → ((i : ℕ) → c i ≡ d i) → (x : Cell) → candidate a c x ≡ candidate b d x
-unfolding candidate
+unfolding candidate waitsAmong
 candidate-same a b c d e f x = rw (e (x .input .0), f (x .output .0))
 
 module _ {cs : List Cell} {p : ℕ → Bool} {us : List Cell} {q : Taken} {ns : List ℕ} (s : Shows cs p us q ns) where

@@ -27,17 +27,13 @@ use Rattle.queues.specs.Queues.{named, named-name, isFound, headWord, senders, 
 use Rattle.table.specs.Table.{olderAt}
 use Rattle.queues.specs.Heads.{head-below}
 use Rattle.matching.specs.declared.Taken.{Taken}
-use Rattle.matching.specs.Picking.{candidate, firstCandidate, InPorts, Takes}
+use Rattle.matching.specs.Picking.{waitsAmong, candidate, firstCandidate, InPorts, Takes}
 
 -- record i stands before record j
 abbrev beforeAt : List ℕ → List Cell → ℕ → ℕ → Bool
 beforeAt r cs i j = before r (nth cs i) (nth cs j)
 
--- a waiting cell whose input is not in the one set and whose output is in the other
-unfoldable pub waitsAmong : (ℕ → Bool) → (ℕ → Bool) → Cell → Bool
-waitsAmong ins outs c = isWaiting c && not (ins (c .input .0)) && outs (c .output .0)
-
--- of those, the oldest
+-- of the waiting cells whose inputs are not in the one set and whose outputs are in the other, the oldest
 unfoldable pub firstAmong : (ℕ → Bool) → (ℕ → Bool) → List Cell → Found
 firstAmong ins outs cs = least (λ k. waitsAmong ins outs (nth cs k)) (olderAt cs) (length cs)
 
@@ -84,14 +80,11 @@ module _ (ins : ℕ → Bool) (o : ℕ) (c : Cell) where
 module _ (ins outs : ℕ → Bool) (c : Cell) where
   pub candidate→ : So (candidate ins outs c) → So (isWaiting c) × No (ins (c .input .0)) × No (outs (c .output .0))
   unfolding candidate
-  candidate→ h =
-      let a = both (isWaiting c && not (ins (c .input .0))) _ h in
-      let b = both (isWaiting c) _ (a .0) in
-      (b .0, denied _ (b .1), denied _ (a .1))
+  candidate→ h = let a = among→ ins (λ o. not (outs o)) c h in (a .0, a .1, denied _ (a .2))
 
   pub →candidate : So (isWaiting c) → No (ins (c .input .0)) → No (outs (c .output .0)) → So (candidate ins outs c)
   unfolding candidate
-  →candidate w n m = join _ _ (join _ _ w (deny _ n)) (deny _ m)
+  →candidate w n m = →among ins (λ o. not (outs o)) c w n (deny _ m)
 
 -- The head of a pair ----------------------------------------------------------------------------------
 
