@@ -25,6 +25,7 @@ use Rattle.rules.specs.Phases.{conflict, isOpen, firstOpen, none, add, addFound
 use Rattle.ideal.specs.Cells.{waiting→, conflict→, by-input, by-output, conflict-self, Same, before-same}
 use Rattle.ideal.specs.Match.{in-add, to-add, self-add, open→, takenIn→, →takenIn, taken→, →taken}
 use Rattle.ideal.specs.Phases.{length-moved, moved-yes, moved-no}
+use Rattle.queues.specs.Queues.{InPorts as Within}
 use Rattle.matching.specs.declared.Taken.{Taken}
 
 -- a waiting cell whose input is not in the one set and whose output is in the other
@@ -40,9 +41,8 @@ unfoldable pub firstCandidate : List ℕ → (ℕ → Bool) → (ℕ → Bool) �
 firstCandidate r ins outs cs = least (λ k. candidate ins outs (nth cs k)) (λ i j. before r (nth cs i) (nth cs j)) (length cs)
 
 -- every waiting cell's ports are below n
-pub record InPorts (n : ℕ) (cs : List Cell) : Type 0 where
-  pub inputs : (k : ℕ) → k < length cs → nth cs k .place ≡ 1 → nth cs k .input .0 < n
-  pub outputs : (k : ℕ) → k < length cs → nth cs k .place ≡ 1 → nth cs k .output .0 < n
+abbrev pub InPorts : ℕ → List Cell → Type 0
+InPorts n cs = Within n cs
 
 -- us becomes vs, the taken ports q next, what is noted ns ms: record k becomes ready, its ports are taken, its input is noted at its output
 pub record Takes (us : List Cell) (q : Taken) (ns : List ℕ) (k : ℕ) (vs : List Cell) (next : Taken) (ms : List ℕ) : Type 0 where

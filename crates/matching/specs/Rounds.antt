@@ -23,7 +23,7 @@ use Rattle.ports.specs.PortLaws.{has-none, none-inside, removed-part, removed-o
 use Rattle.rules.specs.declared.Cell.{Cell}
 use Rattle.rules.specs.Cells.{free, placed, nth, outputOf, isWaiting, older, before, readingFor}
 use Rattle.ideal.specs.Cells.{waiting→, older-ranks, before-ranks}
-use Rattle.queues.specs.Queues.{named, named-name, isFound, headWord, senders, wanted, waitsFor, waits→, →waits, headBelow, headOf, Ports, All, Queues}
+use Rattle.queues.specs.Queues.{named, named-name, isFound, headWord, senders, wanted, waitsFor, waits→, →waits, headBelow, headOf, All, Queues}
 use Rattle.table.specs.Table.{olderAt}
 use Rattle.queues.specs.Heads.{head-below}
 use Rattle.matching.specs.declared.Taken.{Taken}
@@ -50,11 +50,8 @@ unfoldable pub isServable : (ℕ → Bool) → ℕ → List Cell → Bool
 isServable ins o cs = any (λ k. waitsOn ins o (nth cs k)) (length cs)
 
 -- the table's waiting cells have ports
-pub in-ports : {n : ℕ} {cs : List Cell} → n ≤ 16 → InPorts n cs → Ports cs
-in-ports l f = record {
-  inputs = λ k i w. omega (arith, f .inputs k i (waiting→ _ w), l);
-  outputs = λ k i w. omega (arith, f .outputs k i (waiting→ _ w), l);
-}
+pub in-ports : {n : ℕ} {cs : List Cell} → n ≤ 16 → InPorts n cs → InPorts 16 cs
+in-ports l f = record { inputs = λ k i w. omega (arith, f .inputs k i w, l); outputs = λ k i w. omega (arith, f .outputs k i w, l) }
 
 module _ (ins outs : ℕ → Bool) (c : Cell) where
   among→ : So (waitsAmong ins outs c) → So (isWaiting c) × No (ins (c .input .0)) × So (outs (c .output .0))
@@ -117,7 +114,7 @@ module _ {cs : List Cell} {qs : List ℕ} (q : Queues All cs qs) where
 
   sends : (k : ℕ) → k < length cs → So (isWaiting (nth cs k)) → So (has (senders qs (nth cs k .output .0)) (nth cs k .input .0))
   sends k l w =
-      q .heads .sends (nth cs k .input .0) (nth cs k .output .0) (q .ports .inputs k l w) (q .ports .outputs k l w) tt
+      q .heads .sends (nth cs k .input .0) (nth cs k .output .0) (q .ports .inputs k l (waiting→ _ w)) (q .ports .outputs k l (waiting→ _ w)) tt
       ∙ found-head cs _ _ (headOf cs _ _) (head-first cs _ _) k l (→waits _ _ (nth cs k) w refl refl)
 
   sent : (i o : ℕ) → i < 16 → o < 16 → So (has (senders qs o) i) → (k : ℕ) × (k < length cs) × So (waitsFor i o (nth cs k))
@@ -130,7 +127,7 @@ module _ {cs : List Cell} {qs : List ℕ} (q : Queues All cs qs) where
       let k = any→ (λ k. waitsOn ins o (nth cs k)) (length cs) h in
       let w = waitsOn→ ins o (nth cs (k .0)) (k .2) in
       let i : ℕ = nth cs (k .0) .input .0 in
-      q .heads .wants i o (q .ports .inputs (k .0) (k .1) (w .0)) (subst (λ (p : ℕ). p < 16) (w .2) (q .ports .outputs (k .0) (k .1) (w .0))) tt
+      q .heads .wants i o (q .ports .inputs (k .0) (k .1) (waiting→ _ (w .0))) (subst (λ (p : ℕ). p < 16) (w .2) (q .ports .outputs (k .0) (k .1) (waiting→ _ (w .0)))) tt
       (found-head cs i o (headOf cs i o) (head-first cs i o) (k .0) (k .1) (→waits i o (nth cs (k .0)) (w .0) refl (w .2)))
 
   -- Whether an output can be served ---------------------------------------------------------------------
@@ -406,7 +403,7 @@ served ins cs s o y x =
     (k .0, k .1, →among ins (has s) (nth cs (k .0)) (v .0) (v .1) (ap (has s) (v .2) ∙ y))
 
 -- among outputs that are kept and not taken, the oldest cell is the first candidate
-module _ {r : List ℕ} {ins outs : ℕ → Bool} {cs : List Cell} {s : ℕ} (f : Ports cs) (h : Kept r ins outs cs s) (n : (o : ℕ) → So (has s o) → No (outs o)) where
+module _ {r : List ℕ} {ins outs : ℕ → Bool} {cs : List Cell} {s : ℕ} (f : InPorts 16 cs) (h : Kept r ins outs cs s) (n : (o : ℕ) → So (has s o) → No (outs o)) where
   oldest : (k : ℕ) → First (λ k. waitsAmong ins (has s) (nth cs k)) (olderAt cs) (length cs) (At k) → First (λ k. candidate ins outs (nth cs k)) (beforeAt r cs) (length cs) (At k)
   oldest k t =
       let a = among→ ins (has s) (nth cs k) (t .1) in (
@@ -416,7 +413,7 @@ module _ {r : List ℕ} {ins outs : ℕ → Bool} {cs : List Cell} {s : ℕ} (f 
             let v = candidate→ ins outs (nth cs j) x in
             ⊎-elim
             (λ y. ahead r (nth cs) k j (h .alike (nth cs k .output .0) (nth cs j .output .0) (a .2) y) (t .2 j l (→among ins (has s) (nth cs j) (v .0) (v .1) y)))
-            (λ y. inl (before-lower r (nth cs k) (nth cs j) (h .beyond (nth cs k .output .0) (nth cs j .output .0) (a .2) (f .outputs j l (v .0)) (v .2) (servable ins outs cs j l x) y)))
+            (λ y. inl (before-lower r (nth cs k) (nth cs j) (h .beyond (nth cs k .output .0) (nth cs j .output .0) (a .2) (f .outputs j l (waiting→ _ (v .0))) (v .2) (servable ins outs cs j l x) y)))
             (passes (has s (nth cs j .output .0))),
       )
 
@@ -424,13 +421,13 @@ module _ {r : List ℕ} {ins outs : ℕ → Bool} {cs : List Cell} {s : ℕ} (f 
   kept-first {k} e = is-first r ins outs cs (At k) (oldest k (subst (λ (x : Found). First (λ k. waitsAmong ins (has s) (nth cs k)) (olderAt cs) (length cs) x) e (first-among ins s cs)))
 
 -- among the outputs with the lowest reading there is a cell where there is a candidate
-pub lows-first : {r : List ℕ} {ins outs : ℕ → Bool} {cs : List Cell} {s : ℕ} → Ports cs → Lows r ins outs cs s → firstAmong ins (has s) cs ≡ firstCandidate r ins outs cs
+pub lows-first : {r : List ℕ} {ins outs : ℕ → Bool} {cs : List Cell} {s : ℕ} → InPorts 16 cs → Lows r ins outs cs s → firstAmong ins (has s) cs ≡ firstCandidate r ins outs cs
 lows-first {r} {ins} {outs} {cs} {s} f w = is-first r ins outs cs _ (go (firstAmong ins (has s) cs) (first-among ins s cs))
   where
     go : (found : Found) → First (λ k. waitsAmong ins (has s) (nth cs k)) (olderAt cs) (length cs) found → First (λ k. candidate ins outs (nth cs k)) (beforeAt r cs) (length cs) found
     go (At k) t = oldest f (kept-lows w) (λ o x. w .all .inside o x .1) k t
     go Nothing t = λ j l x.
         let v = candidate→ ins outs (nth cs j) x in
-        let o = w .all .some (nth cs j .output .0) (f .outputs j l (v .0)) (v .2) (has-none (nth cs j .output .0)) (servable ins outs cs j l x) in
+        let o = w .all .some (nth cs j .output .0) (f .outputs j l (waiting→ _ (v .0))) (v .2) (has-none (nth cs j .output .0)) (servable ins outs cs j l x) in
         let k = served ins cs s (o .0) (o .1) (w .all .inside (o .0) (o .1) .0) in
         t (k .0) (k .1) (k .2)

@@ -19,7 +19,7 @@ use Rattle.laws.specs.declared.Found.{Found}
 use Rattle.laws.specs.declared.Found.the-variants.{At, Nothing}
 use Rattle.rules.specs.declared.Cell.{Cell}
 use Rattle.rules.specs.Cells.{nth, isWaiting, older}
-use Rattle.ideal.specs.Cells.{older-ranks}
+use Rattle.ideal.specs.Cells.{waiting→, older-ranks}
 use Rattle.table.specs.Table.{olderAt}
 use Rattle.queues.specs.Queues.{pair, pairOf, queueWords, topWord, nextWord, waitsFor, waits→, →waits, headBelow, headOf, Link, Chains, Queues, waitingAt, classOf}
 
@@ -130,7 +130,7 @@ module _ {P : ℕ → ℕ → Type 0} {cs : List Cell} {qs : List ℕ} (q : Queu
 
   in-class : (j : ℕ) → j < length cs → q .cl j ≡ pair i o → So (isWaiting (nth cs j)) → So (waitsFor i o (nth cs j))
   in-class j l e h =
-      let x = q .ports .outputs j l h in
+      let x = q .ports .outputs j l (waiting→ _ h) in
       let y = q .covers j l h in
       →waits i o (nth cs j) h (omega (arith, x, y, e)) (omega (arith, x, y, e))
 

@@ -19,10 +19,10 @@ use Rattle.ports.specs.Ports.{has, Added, Except}
 use Rattle.ports.specs.PortLaws.{has-none}
 use Rattle.rules.specs.declared.Cell.{Cell}
 use Rattle.rules.specs.Cells.{free, nth, placed, isWaiting, records, cellsOf}
-use Rattle.ideal.specs.Cells.{Same, older-same}
+use Rattle.ideal.specs.Cells.{waiting→, Same, older-same}
 use Rattle.ideal.specs.Words.{length-cellsOf}
 use Rattle.table.specs.Table.{olderAt}
-use Rattle.queues.specs.Queues.{pair, pairOf, named, nameOf, named-name, isFound, queueWords, headWord, topWord, senders, wanted, waitsFor, waits→, →waits, headBelow, headOf, Chains, Heads, All, But, Ports, Queues, waitingAt, classOf, HeadSet}
+use Rattle.queues.specs.Queues.{pair, pairOf, named, nameOf, named-name, isFound, queueWords, headWord, topWord, senders, wanted, waitsFor, waits→, →waits, headBelow, headOf, Chains, Heads, All, But, InPorts, Queues, waitingAt, classOf, HeadSet}
 use Rattle.queues.specs.Chains.{chains-kept, chains-link, class-waiting}
 
 -- A new head ----------------------------------------------------------------------------------
@@ -207,12 +207,12 @@ pub record Joins (cs : List Cell) (k : ℕ) (qs : List ℕ) (c : Cell) : Type 0 
   pub waits : c .place ≡ 1
   pub inside : k < length cs
   pub few : length cs ≤ 1024
-  pub ports : Ports cs
+  pub ports : InPorts 16 cs
   pub long : length qs ≡ queueWords
   pub chains : Chains (classOf cs) k qs
   pub heads : Heads All cs k qs
 
-pub joins : (ws : List ℕ) (k : ℕ) {qs : List ℕ} {c : Cell} → (k < records ws) × ((records ws ≤ 1024) × (Ports (cellsOf ws) × ((length qs ≡ queueWords) × (Chains (classOf (cellsOf ws)) k qs × Heads All (cellsOf ws) k qs))))
+pub joins : (ws : List ℕ) (k : ℕ) {qs : List ℕ} {c : Cell} → (k < records ws) × ((records ws ≤ 1024) × (InPorts 16 (cellsOf ws) × ((length qs ≡ queueWords) × (Chains (classOf (cellsOf ws)) k qs × Heads All (cellsOf ws) k qs))))
     → c ≡ nth (cellsOf ws) k → c .place ≡ 1 → Joins (cellsOf ws) k qs c
 joins ws k p e w = record {
   read = e;
@@ -230,10 +230,10 @@ module _ {cs : List Cell} {k : ℕ} {qs : List ℕ} {c : Cell} (g : Joins cs k q
   waits-here = is-waiting cs k (g .read) (g .waits)
 
   pub small-input : c .input .0 < 16
-  small-input = rw (g .read) (g .ports .inputs k (g .inside) waits-here)
+  small-input = rw (g .read) (g .ports .inputs k (g .inside) (waiting→ _ waits-here))
 
   pub small-output : c .output .0 < 16
-  small-output = rw (g .read) (g .ports .outputs k (g .inside) waits-here)
+  small-output = rw (g .read) (g .ports .outputs k (g .inside) (waiting→ _ waits-here))
 
   module _ (p : ℕ) (at : p ≡ pairOf c) {ms : List ℕ} (link : ms ≡ set (set qs (512 + k) (topWord qs p)) (256 + p) (suc k)) where
     pub linked-long : length ms ≡ queueWords
@@ -294,7 +294,7 @@ queues-renew {cs} {qs} {ns} i o small less few q s = record {
 }
 
 -- all records have joined
-pub queues-all : {cs : List Cell} {qs : List ℕ} → length qs ≡ queueWords → Ports cs → Chains (classOf cs) (length cs) qs → Heads All cs (length cs) qs → Queues All cs qs
+pub queues-all : {cs : List Cell} {qs : List ℕ} → length qs ≡ queueWords → InPorts 16 cs → Chains (classOf cs) (length cs) qs → Heads All cs (length cs) qs → Queues All cs qs
 queues-all {cs} l f c h = record { cl = classOf cs; long = l; ports = f; chains = c; covers = λ k i w. class-waiting cs k w; heads = h }
 
 -- the head of a pair becomes ready: its pair's head is to be found anew, the others stand
@@ -347,8 +347,8 @@ module _ {cs : List Cell} {qs : List ℕ} (q : Queues All cs qs) (k : ℕ) (l : 
     cl = q .cl;
     long = q .long;
     ports = record {
-      inputs = λ j m w. rw (still j w) (q .ports .inputs j (rw next-long at m) (rw (still j w) at w));
-      outputs = λ j m w. rw (still j w) (q .ports .outputs j (rw next-long at m) (rw (still j w) at w));
+      inputs = λ j m w. let v = is-waiting next j refl w in rw (still j v) (q .ports .inputs j (rw next-long at m) (rw (still j v) at w));
+      outputs = λ j m w. let v = is-waiting next j refl w in rw (still j v) (q .ports .outputs j (rw next-long at m) (rw (still j v) at w));
     };
     chains = rw next-long (q .chains);
     covers = λ j m w. rw (still j w) (q .covers j (rw next-long at m) (rw (still j w) at w));

@@ -112,16 +112,16 @@ All i o = Unit {0}
 abbrev pub But : ℕ → ℕ → ℕ → ℕ → Type 0
 But a b i o = pair i o ≡ pair a b → ⊥
 
--- every waiting cell's ports are ports
-pub record Ports (cs : List Cell) : Type 0 where
-  pub inputs : (k : ℕ) → k < length cs → So (isWaiting (nth cs k)) → nth cs k .input .0 < 16
-  pub outputs : (k : ℕ) → k < length cs → So (isWaiting (nth cs k)) → nth cs k .output .0 < 16
+-- every waiting cell's ports are below n
+pub record InPorts (n : ℕ) (cs : List Cell) : Type 0 where
+  pub inputs : (k : ℕ) → k < length cs → nth cs k .place ≡ 1 → nth cs k .input .0 < n
+  pub outputs : (k : ℕ) → k < length cs → nth cs k .place ≡ 1 → nth cs k .output .0 < n
 
 -- a table's queues; the pairs are those of a table whose waiting cells all of cs were among
 pub record Queues (P : ℕ → ℕ → Type 0) (cs : List Cell) (qs : List ℕ) : Type 0 where
   pub cl : ℕ → ℕ
   pub long : length qs ≡ queueWords
-  pub ports : Ports cs
+  pub ports : InPorts 16 cs
   pub chains : Chains cl (length cs) qs
   pub covers : (k : ℕ) → k < length cs → So (isWaiting (nth cs k)) → cl k ≡ pairOf (nth cs k)
   pub heads : Heads P cs (length cs) qs

@@ -12,7 +12,7 @@ ghost use Rattle.laws.specs.Least.{Below};
 ghost use Rattle.laws.specs.First.{firstFound};
 ghost use Rattle.rules.specs.Cells.{records, cellsOf};
 ghost use Rattle.table.specs.Table.{olderAt};
-ghost use Rattle.queues.specs.Queues.{pair, named, queueWords, headWord, topWord, senders, wanted, headOf, Chains, Heads, All, But, Queues, HeadSet, classOf, Ports, waitingAt};
+ghost use Rattle.queues.specs.Queues.{pair, named, queueWords, headWord, topWord, senders, wanted, headOf, Chains, Heads, All, But, Queues, HeadSet, classOf, InPorts, waitingAt};
 
 // Where the words of a pair stand.
 fn pair_of(i: u32, o: u32) -> usize
@@ -135,7 +135,7 @@ pub fn renew(table: &[u32], queues: &mut [u16], i: u32, o: u32)
 fn join(table: &[u32], queues: &mut [u16], k: usize)
     requires { ⌜ k < records (now table) ⌝ }
     requires { ⌜ records (now table) ≤ 1024 ⌝ }
-    requires { ⌜ Ports (cellsOf (now table)) ⌝ }
+    requires { ⌜ InPorts 16 (cellsOf (now table)) ⌝ }
     requires { ⌜ length (now queues) ≡ queueWords ⌝ }
     requires { ⌜ Chains (classOf (cellsOf (now table))) k (now queues) ⌝ }
     requires { ⌜ Heads All (cellsOf (now table)) k (now queues) ⌝ }
@@ -157,7 +157,7 @@ fn join(table: &[u32], queues: &mut [u16], k: usize)
 // The queues of a table, in a list of zeros.
 pub fn line_up(table: &[u32], queues: &mut [u16])
     requires { ⌜ records (now table) ≤ 1024 ⌝ }
-    requires { ⌜ Ports (cellsOf (now table)) ⌝ }
+    requires { ⌜ InPorts 16 (cellsOf (now table)) ⌝ }
     requires { ⌜ now queues ≡ replicate queueWords 0 ⌝ }
     ensures { λ _. ⌜ Queues All (cellsOf (now (table .entry))) (now (queues .exit)) ⌝ }
 {
