@@ -1,4 +1,4 @@
-//! Finds the proved parts of a slot, libparts.a: in the repository's target/staticlib, or in the folder that
+//! Finds the proved stages of a slot, libstages.a: in the repository's target/staticlib, or in the folder that
 //! TREIKWATER_LIBRARY names.
 
 use std::env;
@@ -11,13 +11,13 @@ fn main() {
         || Path::new(env!("CARGO_MANIFEST_DIR")).join("../target/staticlib"),
         PathBuf::from,
     );
-    let library = folder.join("libparts.a");
+    let library = folder.join("libstages.a");
     println!("cargo:rerun-if-env-changed={PLACE}");
     println!("cargo:rerun-if-changed={}", library.display());
     assert!(
         library.exists(),
-        "there is no libparts.a: make it by `rt staticlib parts`, or set {PLACE} to its folder"
+        "there is no libstages.a: make it by `rt staticlib stages`, or set {PLACE} to its folder"
     );
     println!("cargo:rustc-link-search=native={}", folder.display());
-    println!("cargo:rustc-link-lib=static=parts");
+    println!("cargo:rustc-link-lib=static=stages");
 }

@@ -2,7 +2,7 @@
  * Treikwater: a scheduler for crossbar cell switches of up to 16 x 16 ports.
  *
  * Two calls, a fresh start and a slot. Each is proved to do what document 01 says, for every
- * input: it takes any words and any lengths, and answers with a number. Link libboard.a.
+ * input: it takes any words and any lengths, and answers with a number. Link libexports.a.
  *
  * What the caller owes, since nothing here can test it:
  *   - each pointer is aligned for uint32_t and valid for the length that follows it, counted in

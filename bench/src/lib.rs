@@ -2,7 +2,7 @@
 //! plain Rust was found to go. Both make every check of document 01 on every call.
 
 pub mod checks;
-pub mod parts;
+pub mod stages;
 pub mod ranked;
 pub mod scans;
 pub mod states;

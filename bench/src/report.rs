@@ -136,8 +136,8 @@ fn goal_table(slots: &[Row], lines: Option<&[Lines]>) -> String {
 }
 
 const PARTS: &str = "\
-The parts of the proved slot as calls of their own (`crates/parts`), each from the states as the parts before it leave them. *Reading*: how many ready\n\
-cells each output has. *Picking*: the phases, with the lining up of the queues. *Exhale*: its passes, one for each output. What the parts lack of\n\
+The stages of the proved slot as calls of their own (`crates/stages`), each from the states as the stages before it leave them. *Reading*: how many ready\n\
+cells each output has. *Picking*: the phases, with the lining up of the queues. *Exhale*: its passes, one for each output. What the stages lack of\n\
 the whole are the other checks, and what it costs that they come one after the other.\n\n";
 
 /// Of the large switch at speedup 3.
@@ -150,7 +150,7 @@ fn part_table(slots: &[Row]) -> String {
         "reading",
         "picking",
         "exhale",
-        "all parts",
+        "all stages",
         "whole",
         "whole less exhale",
         "fastest",
@@ -160,9 +160,9 @@ fn part_table(slots: &[Row]) -> String {
         .iter()
         .filter(|(s, _)| (s.ports, s.speedup) == (16, 3));
     let rows = large.map(|(s, t)| {
-        let p = &t.parts;
+        let p = &t.stages;
         let picking = p.phases.median - p.reading.median;
-        let all = [p.fit, p.live, p.inhale, p.phases, p.exhale].map(|part| part.median);
+        let all = [p.fit, p.live, p.inhale, p.phases, p.exhale].map(|stage| stage.median);
         let (without, fastest) = (t.without_exhale(), t.fastest.median);
         format!(
             "{} | {:.0} | {:.0} | {:.0} | {:.0} | {picking:.0} | {:.0} | {:.0} | {:.0} | {without:.0} | {fastest:.0} | {:.2}",

@@ -4,7 +4,7 @@ use std::hint::black_box;
 use std::time::Instant;
 
 use bench::states::{states, Setting, State, STATES};
-use bench::{parts, proved, ranked, scans, Call, SlotFn};
+use bench::{proved, ranked, scans, stages, Call, SlotFn};
 
 /// Every setting is come back to so many times, so that a slow while of the machine meets them all.
 const PASSES: usize = 9;
@@ -35,14 +35,14 @@ pub struct Times {
     pub proved: Time,
     pub scans: Time,
     pub fastest: Time,
-    pub parts: Parts,
+    pub stages: Stages,
     /// One read of the table.
     pub read: Time,
 }
 
-/// The parts of the proved slot, called one by one.
+/// The stages of the proved slot, called one by one.
 #[derive(Clone, Copy)]
-pub struct Parts {
+pub struct Stages {
     pub fit: Time,
     pub live: Time,
     pub inhale: Time,
@@ -54,7 +54,7 @@ pub struct Parts {
 
 impl Times {
     pub fn without_exhale(&self) -> f64 {
-        self.proved.median - self.parts.exhale.median
+        self.proved.median - self.stages.exhale.median
     }
 }
 
@@ -74,10 +74,10 @@ struct Timed {
 
 impl Timed {
     const fn slot(slot: SlotFn) -> Timed {
-        Timed::part(After::Nothing, slot)
+        Timed::stage(After::Nothing, slot)
     }
 
-    const fn part(after: After, slot: SlotFn) -> Timed {
+    const fn stage(after: After, slot: SlotFn) -> Timed {
         Timed { slot, after }
     }
 }
@@ -86,25 +86,25 @@ const TIMED: [Timed; 10] = [
     Timed::slot(proved),
     Timed::slot(scans::slot),
     Timed::slot(ranked::slot),
-    Timed::part(After::Nothing, |call| u32::from(!parts::fit(&call))),
-    Timed::part(After::Nothing, |call| {
-        black_box(parts::live(&call));
+    Timed::stage(After::Nothing, |call| u32::from(!stages::fit(&call))),
+    Timed::stage(After::Nothing, |call| {
+        black_box(stages::live(&call));
         0
     }),
-    Timed::part(After::Nothing, |mut call| {
-        parts::inhale(&mut call);
+    Timed::stage(After::Nothing, |mut call| {
+        stages::inhale(&mut call);
         0
     }),
-    Timed::part(After::Inhale, |call| {
-        black_box(parts::reading(&call));
+    Timed::stage(After::Inhale, |call| {
+        black_box(stages::reading(&call));
         0
     }),
-    Timed::part(After::Inhale, |mut call| {
-        parts::phases(&mut call);
+    Timed::stage(After::Inhale, |mut call| {
+        stages::phases(&mut call);
         0
     }),
-    Timed::part(After::Phases, |mut call| {
-        parts::exhale(&mut call);
+    Timed::stage(After::Phases, |mut call| {
+        stages::exhale(&mut call);
         0
     }),
     Timed::slot(read),
@@ -135,8 +135,8 @@ struct Clock {
 impl Clock {
     fn of(setting: Setting) -> Clock {
         let states = states(setting);
-        let inhaled = each(&states, parts::inhale);
-        let moved = each(&inhaled, parts::phases);
+        let inhaled = each(&states, stages::inhale);
+        let moved = each(&inhaled, stages::phases);
         Clock {
             states: Batch::of(states),
             inhaled: Batch::of(inhaled),
@@ -165,7 +165,7 @@ impl Clock {
             proved,
             scans,
             fastest,
-            parts: Parts {
+            stages: Stages {
                 fit,
                 live,
                 inhale,
@@ -178,10 +178,10 @@ impl Clock {
     }
 }
 
-/// The states as a part of their slot leaves them.
-fn each(states: &[State], part: fn(&mut Call)) -> Vec<State> {
+/// The states as a stage of their slot leaves them.
+fn each(states: &[State], stage: fn(&mut Call)) -> Vec<State> {
     let mut after = states.to_vec();
-    after.iter_mut().for_each(|s| part(&mut s.call()));
+    after.iter_mut().for_each(|s| stage(&mut s.call()));
     after
 }
 

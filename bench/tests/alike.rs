@@ -1,8 +1,8 @@
 //! The plain slots do what the proved slot and the second program do, refusals too, and so do the proved slot's
-//! parts; so their times mean something.
+//! stages; so their times mean something.
 
 use bench::states::{states, Setting, State};
-use bench::{parts, proved, ranked, scans, text, SlotFn};
+use bench::{proved, ranked, scans, stages, text, SlotFn};
 use second::generate::{
     self, call, cells, damage_table, spread, valid_arrivals, Call, Damage, Era, Random, Record,
     Shape, Slots, Traffic, Wanted,
@@ -91,26 +91,26 @@ fn all_slots_are_alike_on_the_timed_states() {
             live,
         };
         assert!(states(setting).iter().all(|s| agreed(s) == 0));
-        states(setting).iter().for_each(parts_agree);
+        states(setting).iter().for_each(stages_agree);
     }
 }
 
-/// The parts one after the other do what the slot does, but for the next slot's number.
-fn parts_agree(s: &State) {
+/// The stages one after the other do what the slot does, but for the next slot's number.
+fn stages_agree(s: &State) {
     let (_, whole) = run(proved, s.clone());
-    let mut by_parts = s.clone();
-    let mut call = by_parts.call();
+    let mut by_stages = s.clone();
+    let mut call = by_stages.call();
     let cells = call.table.chunks_exact(5).filter(|cell| cell[0] != 0);
-    assert_eq!(parts::live(&call), cells.count());
-    assert!(parts::fit(&call));
-    parts::inhale(&mut call);
+    assert_eq!(stages::live(&call), cells.count());
+    assert!(stages::fit(&call));
+    stages::inhale(&mut call);
     let ready = |cell: &&[u32]| (cell[0], cell[2]) == (2, 0);
     let for_output_0 = call.table.chunks_exact(5).filter(ready).count();
-    assert_eq!(parts::reading(&call) as usize, for_output_0);
-    parts::phases(&mut call);
-    parts::exhale(&mut call);
-    by_parts.numbers = whole.numbers;
-    assert_eq!(by_parts, whole);
+    assert_eq!(stages::reading(&call) as usize, for_output_0);
+    stages::phases(&mut call);
+    stages::exhale(&mut call);
+    by_stages.numbers = whole.numbers;
+    assert_eq!(by_stages, whole);
 }
 
 /// All sizes of tables at which a plain slot goes another way, fit and damaged.

@@ -1,4 +1,4 @@
-//! Finds the proved library, libboard.a: in the repository's target/staticlib, or in the folder that
+//! Finds the proved library, libexports.a: in the repository's target/staticlib, or in the folder that
 //! TREIKWATER_LIBRARY names.
 
 use std::env;
@@ -15,13 +15,13 @@ fn folder() -> PathBuf {
 
 fn main() {
     let folder = folder();
-    let library = folder.join("libboard.a");
+    let library = folder.join("libexports.a");
     println!("cargo:rerun-if-env-changed={PLACE}");
     println!("cargo:rerun-if-changed={}", library.display());
     assert!(
         library.exists(),
-        "there is no libboard.a: make it by `rt staticlib board`, or set {PLACE} to its folder"
+        "there is no libexports.a: make it by `rt staticlib exports`, or set {PLACE} to its folder"
     );
     println!("cargo:rustc-link-search=native={}", folder.display());
-    println!("cargo:rustc-link-lib=static=board");
+    println!("cargo:rustc-link-lib=static=exports");
 }

@@ -18,7 +18,7 @@ use Rattle.laws.specs.declared.Found.the-variants.{At, Nothing}
 use Rattle.rules.specs.declared.Cell.{Cell}
 use Rattle.rules.specs.Cells.{outputOf, free, nth, records, cellsOf, isReady, isReadyFor, sameOutput, older}
 use Rattle.rules.specs.Phases.{storeAt, oldestReady, isEmitted, exhale, emittedWords, exhaled}
-use Rattle.ideal.specs.Words.{length-cellsOf}
+use Rattle.words.specs.Words.{length-cellsOf}
 use Rattle.table.specs.Table.{Stored}
 use Rattle.buffers.specs.Stores.{length-storeAt, nth-storeAt}
 

@@ -18,7 +18,7 @@ use Rattle.rules.specs.declared.Slot.{Slot}
 use Rattle.rules.specs.Cells.{inputOf, outputOf, cell, free, nth, isFree, records, cellsOf}
 use Rattle.rules.specs.Answers.{firstWord, tagWord, arrives}
 use Rattle.rules.specs.Phases.{lowestFree, arrival, enter, inhale}
-use Rattle.ideal.specs.Words.{length-cellsOf}
+use Rattle.words.specs.Words.{length-cellsOf}
 use Rattle.table.specs.Table.{Stored, stored-records, NoneBelow}
 
 -- the words ws become vs by the arrival at input i, and below `next` no record of them is free

@@ -15,7 +15,7 @@ use Rattle.rules.specs.Cells.{lastSlot, nth, cellsOf}
 use Rattle.rules.specs.Phases.{readings, matchOf, phases, exhale}
 use Rattle.rules.specs.Calls.{State, Call, starts, entered, slotRuns, run}
 use Rattle.rules.specs.Demands.{isAccepted}
-use Rattle.ideal.specs.Words.{cellsOf-zeros}
+use Rattle.words.specs.Words.{cellsOf-zeros}
 use Rattle.ideal.specs.Fit.{Fit}
 use Rattle.ideal.specs.Match.{match-is}
 use Rattle.ideal.specs.Phases.{phases-zero, phases-suc, length-phases}

@@ -22,7 +22,7 @@ use Rattle.rules.specs.Answers.{numberOf, isDone, outside, arrivalWidth, exhale
 use Rattle.rules.specs.Phases.{readings, matchOf, phases, isEmitted, exhale}
 use Rattle.rules.specs.Calls.{startsFresh, startRefused, freshStart, entered, transferred, slotRuns, slotRefused, slot}
 use Rattle.rules.specs.Model.{among, arrived, Initial, Slotted}
-use Rattle.ideal.specs.Words.{length-cellsOf, cellsOf-wordsOf, cellsOf-zeros}
+use Rattle.words.specs.Words.{length-cellsOf, cellsOf-wordsOf, cellsOf-zeros}
 use Rattle.ideal.specs.Cells.{live→, same-refl}
 use Rattle.ideal.specs.Fit.{Fit, fit→, free-sound}
 use Rattle.ideal.specs.Match.{match-is}

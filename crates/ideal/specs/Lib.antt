@@ -1,4 +1,3 @@
-pub mod Words
 pub mod Cells
 pub mod Fit
 pub mod Match

@@ -20,7 +20,7 @@ use Rattle.rules.specs.Phases.{moved, phases, isEmitted, exhale, exhaled, readi
 use Rattle.rules.specs.Calls.{State, Call, starts, slots, entered, transferred, slotRuns, does, run}
 use Rattle.rules.specs.Demands.{isAccepted, restarts, runsSlot, emits, brings, emissions, since}
 use Rattle.rules.specs.Model.{Match}
-use Rattle.ideal.specs.Words.{cellsOf-zeros}
+use Rattle.words.specs.Words.{cellsOf-zeros}
 use Rattle.ideal.specs.Cells.{live→, →live}
 use Rattle.ideal.specs.Fit.{Fit}
 use Rattle.ideal.specs.Match.{match-is}

@@ -6,7 +6,7 @@ pub mod Choice
 pub mod Least
 pub mod First
 pub mod Lists
-pub mod Noted
+pub mod Sifted
 pub mod Folds
 pub mod Pieces
 pub mod Bits

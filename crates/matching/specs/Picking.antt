@@ -44,14 +44,14 @@ firstCandidate r ins outs cs = least (λ k. candidate ins outs (nth cs k)) (λ i
 abbrev pub InPorts : ℕ → List Cell → Type 0
 InPorts n cs = Within n cs
 
--- us becomes vs, the taken ports q next, what is noted ns ms: record k becomes ready, its ports are taken, its input is noted at its output
+-- us becomes vs, the taken ports q next, what is sifted ns ms: record k becomes ready, its ports are taken, its input is sifted at its output
 pub record Takes (us : List Cell) (q : Taken) (ns : List ℕ) (k : ℕ) (vs : List Cell) (next : Taken) (ms : List ℕ) : Type 0 where
   pub cells : vs ≡ set us k (placed 2 (nth us k))
   pub inputs : Added (q .inputs) (nth us k .input .0) (next .inputs)
   pub outputs : Added (q .outputs) (nth us k .output .0) (next .outputs)
   pub served : ms ≡ set ns (nth us k .output .0) (nth us k .input .0)
 
--- us, q and ns show that the records of p were picked from cs: they are ready, their ports are taken, their inputs are noted at their outputs
+-- us, q and ns show that the records of p were picked from cs: they are ready, their ports are taken, their inputs are sifted at their outputs
 pub record Shows (cs : List Cell) (p : ℕ → Bool) (us : List Cell) (q : Taken) (ns : List ℕ) : Type 0 where
   pub cells : us ≡ moved p cs
   pub inputs : (i : ℕ) → has (q .inputs) i ≡ isTakenInput p cs (inputOf i)
@@ -208,15 +208,15 @@ module _ {cs : List Cell} {p : ℕ → Bool} {us vs : List Cell} {q next : Taken
             (→taken cs (add p k) (nth cs k .output) k l (self-add p k) refl)
             (λ i x. let d = taken→ cs p (outputOf i) x in →taken cs (add p k) (outputOf i) (d .0) (d .1) (to-add p k (d .0) (d .2)) (d .3))
             (λ i x. let d = taken→ cs (add p k) (outputOf i) x in ⊎-elim (λ y. inl (→taken cs p (outputOf i) (d .0) (d .1) y (d .3))) (λ y. inr (sym (d .3) ∙ ap (λ (j : ℕ). nth cs j .output .0) y)) (in-add p k (d .0) (d .2)));
-        long = ap length noted ∙ length-set ns _ _ ∙ s .long;
-        served = λ j m x. ap (λ (w : List ℕ). getD w (nth cs j .output .0) 0) noted ∙ ⊎-elim (λ y. was j m y) (λ (y : j ≡ k). rw y (getD-set-same ns (nth cs k .output .0) (nth cs k .input .0) 0 (rw (s .long) small))) (in-add p k j x);
+        long = ap length sifted ∙ length-set ns _ _ ∙ s .long;
+        served = λ j m x. ap (λ (w : List ℕ). getD w (nth cs j .output .0) 0) sifted ∙ ⊎-elim (λ y. was j m y) (λ (y : j ≡ k). rw y (getD-set-same ns (nth cs k .output .0) (nth cs k .input .0) 0 (rw (s .long) small))) (in-add p k j x);
       }
     where
       same : Same (nth us k) (nth cs k)
       same = cell-same s k l
 
-      noted : ms ≡ set ns (nth cs k .output .0) (nth cs k .input .0)
-      noted = t .served ∙ ap₂ (λ (a b : ℕ). set ns a b) (same .output) (same .input)
+      sifted : ms ≡ set ns (nth cs k .output .0) (nth cs k .input .0)
+      sifted = t .served ∙ ap₂ (λ (a b : ℕ). set ns a b) (same .output) (same .input)
 
       -- an output that was served before is another one
       was : (j : ℕ) → j < length cs → So (p j) → getD (set ns (nth cs k .output .0) (nth cs k .input .0)) (nth cs j .output .0) 0 ≡ nth cs j .input .0

@@ -20,7 +20,7 @@ use Rattle.ports.specs.PortLaws.{has-none}
 use Rattle.rules.specs.declared.Cell.{Cell}
 use Rattle.rules.specs.Cells.{free, nth, placed, isWaiting, records, cellsOf}
 use Rattle.ideal.specs.Cells.{waiting→, Same, older-same}
-use Rattle.ideal.specs.Words.{length-cellsOf}
+use Rattle.words.specs.Words.{length-cellsOf}
 use Rattle.table.specs.Table.{olderAt}
 use Rattle.queues.specs.Queues.{pair, pairOf, named, nameOf, named-name, isFound, queueWords, headWord, topWord, senders, wanted, waitsFor, waits→, →waits, headBelow, headOf, Chains, Heads, All, But, InPorts, Queues, waitingAt, classOf, HeadSet}
 use Rattle.queues.specs.Chains.{chains-kept, chains-link, class-waiting}

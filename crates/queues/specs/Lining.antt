@@ -7,10 +7,10 @@ use native.Mathlib.Omega.{arith}
 use lib.Bits.{bitAnd}
 use lib.ListN.{length, getD}
 use Rattle.laws.specs.Bits.{and-none}
-use Rattle.laws.specs.Noted.{Noted, past}
+use Rattle.laws.specs.Sifted.{Sifted, past}
 use Rattle.rules.specs.declared.Cell.{Cell}
 use Rattle.rules.specs.Cells.{nth, cellsOf}
-use Rattle.noting.specs.Noting.{Lacks, walk-to, walk-end}
+use Rattle.sift.specs.Kinds.{Lacks, walk-to, walk-end}
 use Rattle.queues.specs.Queues.{queueWords, Chains, Heads, All, classOf}
 use Rattle.queues.specs.Chains.{chains-skip, class-other}
 use Rattle.queues.specs.Heads.{not-waiting, heads-skip}
@@ -20,7 +20,7 @@ pub record Lined (cs : List Cell) (qs : List ℕ) (k : ℕ) : Type 0 where
   pub chains : Chains (classOf cs) k qs
   pub heads : Heads All cs k qs
 
-module _ (ws : List ℕ) {list : List ℕ} {k end m : ℕ} (d : Noted (Lacks ws k 1) list m (end - k)) (l : k ≤ end) (qs : List ℕ) where
+module _ (ws : List ℕ) {list : List ℕ} {k end m : ℕ} (d : Sifted (Lacks ws k 1) list m (end - k)) (l : k ≤ end) (qs : List ℕ) where
   keeps : (x : ℕ) → k ≤ x → x < end → bitAnd (nth (cellsOf ws) x .place) 1 ≡ 0 → Lined (cellsOf ws) qs x → Lined (cellsOf ws) qs (x + 1)
   keeps x f i h y =
       let n = not-waiting (cellsOf ws) x refl (and-none _ 1 (omega arith) h) in

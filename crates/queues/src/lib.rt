@@ -165,10 +165,10 @@ pub fn line_up(table: &[u32], queues: &mut [u16])
     let mut list = [0u8; 256];
     let mut k = 0;
     'stretches: while k < n {
-        let end = noting::stretch_end(k, n);
-        let m = noting::note(table, k, end, noting::WAITING, &mut list);
+        let end = sift::stretch_end(k, n);
+        let m = sift::sift_records(table, k, end, sift::WAITING, &mut list);
         let mut j = 0;
-        'noted: while j < m {
+        'sifted: while j < m {
             join(table, queues, k + (list[j] as usize));
             j += 1;
         }

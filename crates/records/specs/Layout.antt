@@ -14,7 +14,7 @@ use Rattle.laws.specs.Tests.{passes}
 use Rattle.laws.specs.declared.Found.{Found}
 use Rattle.rules.specs.declared.Cell.{Cell}
 use Rattle.rules.specs.Cells.{mostRecords, width, nth, fields, cellsOf, wordsOf}
-use Rattle.ideal.specs.Words.{length-wordsOf, wordsOf-at, cellsOf-wordsOf}
+use Rattle.words.specs.Words.{length-wordsOf, wordsOf-at, cellsOf-wordsOf}
 use Rattle.records.specs.Records.{findingOf, answered, wordsToLay, Laid}
 use Rattle.records.specs.declared.Finding.the-variants.{TooMany}
 

@@ -12,7 +12,7 @@ use Rattle.rules.specs.declared.Output.{Output}
 use Rattle.rules.specs.declared.Cell.{Cell}
 use Rattle.rules.specs.Cells.{mostRecords, width, isWhole, cellsOf, wordsOf}
 use Rattle.rules.specs.Phases.{lowestFree, oldestReady}
-use Rattle.ideal.specs.Words.{cellsOf-wordsOf, wordsOf-cellsOf}
+use Rattle.words.specs.Words.{cellsOf-wordsOf, wordsOf-cellsOf}
 use Rattle.records.specs.declared.Finding.{Finding}
 use Rattle.records.specs.declared.Finding.the-variants.{At, Nothing, TooMany}
 

@@ -14,7 +14,7 @@ use Rattle.rules.specs.Phases.{inhale, readings, phases, exhale}
 use Rattle.rules.specs.Phases.{exhaled as exhaledOf}
 use Rattle.rules.specs.Phases.{matches as matchesOf}
 use Rattle.rules.specs.Calls.{Started, freshStart, Outcome, entered, transferred, slotRuns, slot}
-use Rattle.ideal.specs.Words.{length-cellsOf, length-wordsOf, cellsOf-wordsOf, words-known}
+use Rattle.words.specs.Words.{length-cellsOf, length-wordsOf, cellsOf-wordsOf, words-known}
 use Rattle.ideal.specs.Fit.{Fit}
 use Rattle.ideal.specs.Phases.{length-phases}
 use Rattle.ideal.specs.Inhale.{inhale-is}

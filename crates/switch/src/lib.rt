@@ -175,7 +175,7 @@ fn check_rest(
     requires { ⌜ SizesFit w (now table) ⌝ }
     ensures { λ r. ⌜ r ≡ laterAnswer w (now (table .entry)) (now (arrivals .entry)) (now (matches .entry)) (now (exhaled .entry)) ⌝ }
 {
-    if !table::fit(table, w.ports, w.next) {
+    if !fit_check::is_fit(table, w.ports, w.next) {
         return Answer::Unfit;
     }
     if !do_lengths_fit(w, arrivals, matches, exhaled) {

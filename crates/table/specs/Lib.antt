@@ -1,4 +1,2 @@
 pub mod Table
-pub mod Blocks
 pub mod Reading
-pub mod Marks

@@ -17,13 +17,13 @@ use Rattle.laws.specs.Count.{bit, count, count-zero, count-suc, count-le}
 use Rattle.laws.specs.Lists.{tabulate, length-tabulate, getD-tabulate, tabulate-same, tabulate-getD, set-tabulate}
 use Rattle.laws.specs.Least.{least, least-more, sooner-skip}
 use Rattle.laws.specs.Bits.{and-none}
-use Rattle.laws.specs.Noted.{Noted, past}
+use Rattle.laws.specs.Sifted.{Sifted, past}
 use Rattle.laws.specs.declared.Found.{Found}
 use Rattle.rules.specs.declared.Cell.{Cell}
 use Rattle.rules.specs.declared.Output.{Output}
 use Rattle.rules.specs.Cells.{mostPorts, outputOf, nth, cellsOf, isReady, sameOutput, isReadyFor, older}
 use Rattle.rules.specs.Phases.{readyCount, readings}
-use Rattle.noting.specs.Noting.{Lacks, walk-to, walk-end}
+use Rattle.sift.specs.Kinds.{Lacks, walk-to, walk-end}
 
 -- a cell that is ready for some output
 unfoldable pub isCounted : Cell → Bool
@@ -120,8 +120,8 @@ module _ (cs : List Cell) where
       (λ l. rw (List·getD-eq-default (readingsBelow cs k) 0 {n = o} (rw (length-tabulate (readyBelow cs k) mostPorts) (ltb-false o mostPorts l))) (omega arith))
       (passes (ltb o mostPorts))
 
--- over what is noted of a stretch: the records that are not noted are not ready
-module _ (ws : List ℕ) {list : List ℕ} {k end m : ℕ} (d : Noted (Lacks ws k 2) list m (end - k)) (l : k ≤ end) (ns : List ℕ) where
+-- over what is sifted of a stretch: the records that are not sifted are not ready
+module _ (ws : List ℕ) {list : List ℕ} {k end m : ℕ} (d : Sifted (Lacks ws k 2) list m (end - k)) (l : k ≤ end) (ns : List ℕ) where
   keeps : (x : ℕ) → k ≤ x → x < end → bitAnd (nth (cellsOf ws) x .place) 2 ≡ 0 → ns ≡ readingsBelow (cellsOf ws) x → ns ≡ readingsBelow (cellsOf ws) (x + 1)
   keeps x f i h e = e ∙ readings-skip (cellsOf ws) x (and-none _ 2 (omega arith) h)
 
@@ -139,7 +139,7 @@ oldest-skip : (cs : List Cell) (o : Output) (k : ℕ) → (nth cs k .place ≡ 2
 unfolding isReadyFor isReady
 oldest-skip cs o k h = sym (least-more _ _ k ∙ sooner-skip _ k (oldestBelow cs o k) _ (rw (ne-eqb _ _ h)))
 
-module _ (ws : List ℕ) {list : List ℕ} {k end m : ℕ} (d : Noted (Lacks ws k 2) list m (end - k)) (l : k ≤ end) (o : Output) (found : Found) where
+module _ (ws : List ℕ) {list : List ℕ} {k end m : ℕ} (d : Sifted (Lacks ws k 2) list m (end - k)) (l : k ≤ end) (o : Output) (found : Found) where
   holds : (x : ℕ) → k ≤ x → x < end → bitAnd (nth (cellsOf ws) x .place) 2 ≡ 0 → found ≡ oldestBelow (cellsOf ws) o x → found ≡ oldestBelow (cellsOf ws) o (x + 1)
   holds x f i h e = e ∙ oldest-skip (cellsOf ws) o x (and-none _ 2 (omega arith) h)
 

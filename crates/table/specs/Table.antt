@@ -16,7 +16,7 @@ use Rattle.laws.specs.declared.Found.the-variants.{At, Nothing}
 use Rattle.rules.specs.declared.Cell.{Cell}
 use Rattle.rules.specs.Cells.{nth, placed, isFree, isLive, width, records, cellAt, cellsOf, older}
 use Rattle.rules.specs.Phases.{lowestFree}
-use Rattle.ideal.specs.Words.{length-cellsOf, nth-cellsOf, same-records, store, length-store, cellsOf-store}
+use Rattle.words.specs.Words.{length-cellsOf, nth-cellsOf, same-records, store, length-store, cellsOf-store}
 
 -- the words vs are ws with c as record k
 pub record Stored (ws : List ℕ) (k : ℕ) (c : Cell) (vs : List ℕ) : Type 0 where

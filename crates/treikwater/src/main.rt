@@ -1,18 +1,18 @@
 // The program of document 01: it runs the arrivals of standard input and prints the emitted cells to standard output.
-// What is printed for which input is settled in `desk`. Here the bytes come in and go out, in large pieces.
-use desk::Desk;
+// What is printed for which input is settled in `program`. Here the bytes come in and go out, in large pieces.
+use program::Program;
 use libc::STDIN_FILENO;
 use libc::STDOUT_FILENO;
 ghost use Prim.Native.Nat.{_≤_};
 ghost use mathlib.Core.Path.{_≡_};
 ghost use lib.ListN.{length};
-ghost use Rattle.desk.specs.Coming.{Inside};
+ghost use Rattle.program.specs.Coming.{Inside};
 
 fn main() {
     let mut piece = io::large_buffer();
     let mut out = io::large_buffer();
-    let mut table = [0u32; desk::TABLE_WORDS];
-    let mut arrivals = [0u32; desk::ARRIVAL_WORDS];
+    let mut table = [0u32; program::TABLE_WORDS];
+    let mut arrivals = [0u32; program::ARRIVAL_WORDS];
     run(&mut piece, &mut out, &mut table, &mut arrivals);
 }
 
@@ -22,18 +22,18 @@ fn run(piece: &mut [u8], out: &mut [u8], table: &mut [u32], arrivals: &mut [u32]
     requires room { ⌜ 1024 ≤ length (now out) ⌝ }
     requires lent { ⌜ (length (now table) ≡ 5125) × (length (now arrivals) ≡ 32) ⌝ }
 {
-    let mut desk = Desk::start();
+    let mut program = Program::start();
     let mut turns = u64::MAX;
     while turns > 0 {
         let got = libc::read(STDIN_FILENO, piece);
         let n = io::count(got, piece);
         if n == 0 {
-            let at = desk.finish(table, out, 0);
+            let at = program.finish(table, out, 0);
             io::write_all(STDOUT_FILENO, &out[..at]);
             return;
         }
-        desk = take(desk, &piece[..n], out, table, arrivals);
-        if desk.is_over() {
+        program = take(program, &piece[..n], out, table, arrivals);
+        if program.is_over() {
             return;
         }
         turns -= 1;
@@ -41,22 +41,22 @@ fn run(piece: &mut [u8], out: &mut [u8], table: &mut [u32], arrivals: &mut [u32]
 }
 
 // Takes a piece of the input, and writes the buffer out where it is full and at the piece's end. A failed write ends the run.
-fn take(start: Desk, piece: &[u8], out: &mut [u8], table: &mut [u32], arrivals: &mut [u32]) -> Desk
+fn take(start: Program, piece: &[u8], out: &mut [u8], table: &mut [u32], arrivals: &mut [u32]) -> Program
     requires inside { ⌜ Inside start ⌝ }
     requires room { ⌜ 1024 ≤ length (now out) ⌝ }
     requires lent { ⌜ (length (now table) ≡ 5125) × (length (now arrivals) ≡ 32) ⌝ }
     ensures { λ r. ⌜ Inside r ⌝ }
 {
-    let mut desk = start;
+    let mut program = start;
     let mut next = 0;
     while next < piece.len() {
-        let pass = desk.pass(piece, next, table, arrivals, out);
+        let pass = program.pass(piece, next, table, arrivals, out);
         let at = pass.at;
         if !io::write_all(STDOUT_FILENO, &out[..at]) {
-            return Desk::Over;
+            return Program::Over;
         }
-        desk = pass.desk;
+        program = pass.program;
         next = pass.next;
     }
-    desk
+    program
 }

@@ -6,7 +6,7 @@ use Rattle.laws.specs.Count.{count}
 use Rattle.ports.specs.Ports.{has}
 use Rattle.ports.specs.PortLaws.{removed-count}
 use Rattle.rules.specs.Cells.{cellsOf}
-use Rattle.ideal.specs.Words.{length-cellsOf}
+use Rattle.words.specs.Words.{length-cellsOf}
 use Rattle.matching.specs.Rounds.{first-for-below, Round, round-none, round-below, round-more, round-all}
 use Rattle.matching.proofs.first_among.Statement.{statement}
 use Rattle.matching.proofs.first_among.Tie as tie

@@ -6,7 +6,7 @@ use Rattle.laws.specs.Count.{count}
 use Rattle.ports.specs.Ports.{has}
 use Rattle.ports.specs.PortLaws.{removed-count}
 use Rattle.rules.specs.Cells.{cellsOf}
-use Rattle.ideal.specs.Words.{length-cellsOf}
+use Rattle.words.specs.Words.{length-cellsOf}
 use Rattle.matching.specs.Rounds.{Scanned, scan-none, scan-more, scan-below, scan-all, head-read, head-below-records}
 use Rattle.matching.proofs.first_for.Statement.{statement}
 use Rattle.matching.proofs.first_for.Tie as tie

@@ -1,4 +1,4 @@
--- After i rounds the table, the taken ports and what is noted show the cells that i rounds of the rules pick, and the queues are the table's;
+-- After i rounds the table, the taken ports and what is sifted show the cells that i rounds of the rules pick, and the queues are the table's;
 -- the outputs kept stay those with the lowest reading.
 use Prim.Native.Nat.{_≤_, _-_}
 use mathlib.Core.Path.{_≡_, refl, sym, _∙_}
@@ -11,7 +11,7 @@ use Rattle.laws.specs.declared.Found.the-variants.{At}
 use Rattle.ports.specs.Ports.{has}
 use Rattle.rules.specs.Cells.{records, cellsOf}
 use Rattle.rules.specs.Phases.{firstOpen}
-use Rattle.ideal.specs.Words.{length-cellsOf, same-records}
+use Rattle.words.specs.Words.{length-cellsOf, same-records}
 use Rattle.queues.specs.Queues.{All, Queues}
 use Rattle.matching.specs.Picking.{Shows, picks, picks-more, picks-all, stops, open-found, open-waits, finds, cell-same, length-shown, shows-add, shows-none}
 use Rattle.matching.specs.Rounds.{Kept, kept-none, kept-take}

@@ -14,7 +14,7 @@ use Rattle.rules.specs.Cells.{cellsOf}
 use Rattle.rules.specs.declared.Cell.{Cell}
 use Rattle.rules.specs.Phases.{matchOf, moves, phase, phases}
 use Rattle.ideal.specs.Phases.{phases-zero}
-use Rattle.ideal.specs.Words.{same-records}
+use Rattle.words.specs.Words.{same-records}
 use Rattle.queues.specs.Queues.{All, Queues}
 use Rattle.matching.specs.Transfers.{rowOf, row-is, row-inside, rows-next, phases-more, matches-rows, in-ports-phases, quiet-phases, quiet-end}
 use Rattle.matching.proofs.run_phases.Statement.{statement}

@@ -4,7 +4,7 @@ use mathlib.Core.Path.{ap}
 use lib.ListN.{set}
 use denote.Ref.{now}
 use Rattle.rules.specs.declared.Cell.{Cell}
-use Rattle.ideal.specs.Words.{length-cellsOf}
+use Rattle.words.specs.Words.{length-cellsOf}
 use Rattle.table.specs.Table.{stored-records}
 use Rattle.queues.specs.Heads.{queues-take}
 use borrow.Author.Needs.{needs}

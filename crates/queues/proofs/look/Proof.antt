@@ -8,7 +8,7 @@ use lib.ListN.{length}
 use denote.Ref.{now}
 use Rattle.laws.specs.First.{first-below}
 use Rattle.rules.specs.Cells.{nth, cellsOf}
-use Rattle.ideal.specs.Words.{length-cellsOf}
+use Rattle.words.specs.Words.{length-cellsOf}
 use Rattle.queues.specs.Queues.{waitsFor, But, Queues}
 use Rattle.table.specs.Table.{olderAt}
 use Rattle.queues.specs.Chains.{Looked, looked-top, looked-on, looked-all}

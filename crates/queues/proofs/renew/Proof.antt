@@ -1,7 +1,7 @@
 -- The head that was found is put in the place of the old one.
 use denote.Ref.{now}
 use Rattle.rules.specs.Cells.{cellsOf}
-use Rattle.ideal.specs.Words.{length-cellsOf}
+use Rattle.words.specs.Words.{length-cellsOf}
 use Rattle.queues.specs.Heads.{head-fits, queues-renew}
 use borrow.Author.Needs.{needs}
 use Rattle.queues.proofs.renew.Statement.{statement}

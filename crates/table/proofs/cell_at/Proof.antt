@@ -2,7 +2,7 @@
 use mathlib.Core.Path.{sym}
 use native.Mathlib.Omega.{arith}
 use Rattle.rules.specs.Cells.{records}
-use Rattle.ideal.specs.Words.{nth-cellsOf}
+use Rattle.words.specs.Words.{nth-cellsOf}
 use Rattle.table.proofs.cell_at.Statement.{statement}
 use Rattle.table.proofs.cell_at.Tie as tie
 

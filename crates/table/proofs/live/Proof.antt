@@ -8,7 +8,7 @@ use denote.Ref.{now}
 use Rattle.laws.specs.Count.{count, count-zero, count-le, count-yes, count-no}
 use Rattle.rules.specs.Cells.{nth, cellsOf, isLive}
 use Rattle.rules.specs.Answers.{live}
-use Rattle.ideal.specs.Words.{length-cellsOf}
+use Rattle.words.specs.Words.{length-cellsOf}
 use Rattle.table.specs.Table.{is-live, not-live}
 use Rattle.table.proofs.live.Statement.{statement}
 use Rattle.table.proofs.live.Tie as tie

@@ -4,15 +4,15 @@ use mathlib.Core.Path.{_≡_, refl, sym, subst}
 use native.Mathlib.Omega.{arith}
 use lib.ListN.{length}
 use lib.Seq.{length-take-le}
-use Rattle.desk.specs.Coming.{Inside}
+use Rattle.program.specs.Coming.{Inside}
 use Rattle.treikwater.proofs.run.Statement.{statement}
 use Rattle.treikwater.proofs.run.Tie as tie
 
 abbrev Inv-loop : tie.InvT-loop
-Inv-loop piece₀ out₀ table₀ arrivals₀ desk₀ turns₀ piece out table arrivals desk turns = (length piece ≡ length piece₀) × (length out ≡ length out₀) × (length table ≡ length table₀) × (length arrivals ≡ length arrivals₀) × Inside desk
+Inv-loop piece₀ out₀ table₀ arrivals₀ program₀ turns₀ piece out table arrivals program turns = (length piece ≡ length piece₀) × (length out ≡ length out₀) × (length table ≡ length table₀) × (length arrivals ≡ length arrivals₀) × Inside program
 
 abbrev μ-loop : tie.MeasureT-loop
-μ-loop piece₀ out₀ table₀ arrivals₀ desk₀ turns₀ piece out table arrivals desk turns = turns
+μ-loop piece₀ out₀ table₀ arrivals₀ program₀ turns₀ piece out table arrivals program turns = turns
 
 start-requires : tie.Need-start-requires Inv-loop μ-loop
 start-requires c κs = tt

@@ -5,15 +5,15 @@ use mathlib.Core.Path.{_≡_, refl, sym}
 use native.Mathlib.Omega.{arith}
 use lib.ListN.{length}
 use lib.Seq.{length-take-le}
-use Rattle.desk.specs.Coming.{Inside}
+use Rattle.program.specs.Coming.{Inside}
 use Rattle.treikwater.proofs.take.Statement.{statement}
 use Rattle.treikwater.proofs.take.Tie as tie
 
 abbrev Inv-loop : tie.InvT-loop
-Inv-loop piece out₀ table₀ arrivals₀ desk₀ next₀ out table arrivals desk next = (next ≤ length piece) × (length out ≡ length out₀) × (length table ≡ length table₀) × (length arrivals ≡ length arrivals₀) × Inside desk
+Inv-loop piece out₀ table₀ arrivals₀ program₀ next₀ out table arrivals program next = (next ≤ length piece) × (length out ≡ length out₀) × (length table ≡ length table₀) × (length arrivals ≡ length arrivals₀) × Inside program
 
 abbrev μ-loop : tie.MeasureT-loop
-μ-loop piece out₀ table₀ arrivals₀ desk₀ next₀ out table arrivals desk next = length piece - next
+μ-loop piece out₀ table₀ arrivals₀ program₀ next₀ out table arrivals program next = length piece - next
 
 loop-holds : tie.Need-loop-holds Inv-loop μ-loop
 loop-holds c = (omega arith, refl, refl, refl, c .before .before .before .before .pre .0)

@@ -1,0 +1,54 @@
+-- Three words are the switch's numbers, and the rest is the switch's fresh start; another list of numbers is left.
+use mathlib.Core.Path.{sym, ap, _∙_}
+use borrow.Author.Needs.{needs}
+use denote.Ref.{now}
+use Rattle.rules.specs.declared.Switch.{Switch}
+use Rattle.rules.specs.Calls.{freshStart}
+use Rattle.exports.specs.Exports.{startedWords, started-numbered, started-unnumbered}
+use Rattle.exports.proofs.treikwater_fresh_start.Statement.{statement}
+use Rattle.exports.proofs.treikwater_fresh_start.Tie as tie
+
+returns : tie.Need-returns
+returns c =
+    let a = c .before .before .before .args in
+    sym (started-unnumbered (now (a .numbers)) (now (a .table)) (c .if1 .taken))
+
+read-numbers-requires : tie.Need-read-numbers-requires
+read-numbers-requires c κs = search needs
+
+fresh-start-requires : tie.Need-fresh-start-requires
+fresh-start-requires c κs = search needs
+
+write-numbers-requires : tie.Need-write-numbers-requires
+write-numbers-requires c κs = search needs
+
+number-requires : tie.Need-number-requires
+number-requires c κs = search needs
+
+same-length : tie.Need-same-length
+same-length c = search needs
+
+same-length-2 : tie.Need-same-length-2
+same-length-2 c = search needs
+
+returns-2 : tie.Need-returns-2
+returns-2 c =
+    let a = c .before .before .before .before .before .before .before .before .before .before .before .before .before .before .args in
+    let q = c .before .before .before .before .before .before .before .fresh-start in
+    (λ i. record { number = c .number .ensures i; numbers = c .before .before .before .write-numbers .ensures i; table = q .last .1 .0 })
+    ∙ ap startedWords (q .ensures)
+    ∙ ap (λ (w : Switch). startedWords (freshStart w (now (a .table)))) (c .before .before .before .before .before .before .before .before .before .read-numbers .ensures)
+    ∙ sym (started-numbered (now (a .numbers)) (now (a .table)) (c .before .before .before .before .before .before .before .before .before .before .before .if1 .left))
+
+pub treikwater-fresh-start-spec : {M : Type 1} → statement M
+treikwater-fresh-start-spec =
+    tie.close
+    (tie.spec
+    returns
+    read-numbers-requires
+    fresh-start-requires
+    write-numbers-requires
+    number-requires
+    same-length
+    same-length-2
+    returns-2)

@@ -1,0 +1,22 @@
+-- The phases by the counts that were read.
+use borrow.Author.Needs.{needs}
+use Rattle.stages.proofs.treikwater_stage_phases.Statement.{statement}
+use Rattle.stages.proofs.treikwater_stage_phases.Tie as tie
+
+read-requires : tie.Need-read-requires
+read-requires c κs = search needs
+
+transfers-requires : tie.Need-transfers-requires
+transfers-requires c κs = search needs
+
+same-length : tie.Need-same-length
+same-length c = search needs
+
+same-length-2 : tie.Need-same-length-2
+same-length-2 c = search needs
+
+returns : tie.Need-returns
+returns c = rw (← c .before .before .before .before .before .before .before .read .ensures) (c .before .before .before .before .transfers .ensures .1)
+
+pub treikwater-stage-phases-spec : {M : Type 1} → statement M
+treikwater-stage-phases-spec = tie.close (tie.spec read-requires transfers-requires same-length same-length-2 returns)
