@@ -68,7 +68,11 @@ impl Program {
     pub fn is_over(self) -> bool
         ensures { λ r. ⌜ r ≡ isOver self ⌝ }
     {
-        if let Program::Over = self { true } else { false }
+        if let Program::Over = self {
+            true
+        } else {
+            false
+        }
     }
 
     // Takes the bytes of a piece from `from` on, as long as there is room for what the next line's end may print.

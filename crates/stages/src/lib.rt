@@ -25,7 +25,12 @@ pub extern "C" fn treikwater_stage_live(table: &[u32]) -> usize
 }
 
 #[no_mangle]
-pub extern "C" fn treikwater_stage_inhale(table: &mut [u32], arrivals: &[u32], ports: u32, next: u32)
+pub extern "C" fn treikwater_stage_inhale(
+    table: &mut [u32],
+    arrivals: &[u32],
+    ports: u32,
+    next: u32,
+)
     requires { ⌜ ports * 2 ≤ length (now arrivals) ⌝ }
     ensures { λ _. ⌜ cellsOf (now (table .exit)) ≡ inhale ports (slotOf next) (now (arrivals .entry)) (cellsOf (now (table .entry))) ⌝ }
 {

@@ -1,8 +1,8 @@
 // The program of document 01: it runs the arrivals of standard input and prints the emitted cells to standard output.
 // What is printed for which input is settled in `program`. Here the bytes come in and go out, in large pieces.
-use program::Program;
 use libc::STDIN_FILENO;
 use libc::STDOUT_FILENO;
+use program::Program;
 ghost use Prim.Native.Nat.{_≤_};
 ghost use mathlib.Core.Path.{_≡_};
 ghost use lib.ListN.{length};
@@ -41,7 +41,13 @@ fn run(piece: &mut [u8], out: &mut [u8], table: &mut [u32], arrivals: &mut [u32]
 }
 
 // Takes a piece of the input, and writes the buffer out where it is full and at the piece's end. A failed write ends the run.
-fn take(start: Program, piece: &[u8], out: &mut [u8], table: &mut [u32], arrivals: &mut [u32]) -> Program
+fn take(
+    start: Program,
+    piece: &[u8],
+    out: &mut [u8],
+    table: &mut [u32],
+    arrivals: &mut [u32],
+) -> Program
     requires inside { ⌜ Inside start ⌝ }
     requires room { ⌜ 1024 ≤ length (now out) ⌝ }
     requires lent { ⌜ (length (now table) ≡ 5125) × (length (now arrivals) ≡ 32) ⌝ }
