@@ -4,6 +4,25 @@ ghost use Prim.Native.Nat.{_<_};
 ghost use Rattle.rules.specs.Answers.{numberOf, isDone};
 ghost use Rattle.rules.specs.Calls.{restarted, raised};
 
+// The largest numbers; `mostPorts` and the others of specs/Cells.antt are the same for contracts.
+pub const MOST_PORTS: u32 = 16;
+
+pub const MOST_SPEEDUP: u32 = 8;
+
+pub const MOST_RECORDS: usize = 1_024;
+
+pub const LAST_SLOT: u32 = 4_294_967_295;
+
+// How many words a record has, an arrival and an exhaled entry: `width`, `arrivalWidth` and `exhaledWidth` of specs/.
+pub const RECORD_WORDS: usize = 5;
+
+pub const ARRIVAL_WORDS: usize = 2;
+
+pub const EXHALED_WORDS: usize = 4;
+
+// The length of a list with a place for each port.
+pub const PORT_COUNT: usize = MOST_PORTS as usize;
+
 // "An input number is never compared with an output number; slot numbers are a third kind": three types.
 pub struct Input(pub u32);
 
