@@ -19,7 +19,7 @@ use Rattle.rules.specs.declared.Cell.{Cell}
 use Rattle.rules.specs.Cells.{outputOf, free, nth, records, cellsOf, isReady, isReadyFor, sameOutput, older}
 use Rattle.rules.specs.Phases.{storeAt, oldestReady, isEmitted, exhale, emittedWords, exhaled}
 use Rattle.words.specs.Words.{length-cellsOf}
-use Rattle.table.specs.Table.{Stored}
+use Rattle.table.specs.Table.{stored, length-stored, cellsOf-stored}
 use Rattle.buffers.specs.Stores.{length-storeAt, nth-storeAt}
 
 -- what output o finds
@@ -129,8 +129,8 @@ module _ {o : ℕ} {ws l m : List ℕ} where
   emits-nothing f e = record { long = refl; cells = rw f; words = rw f e }
 
   pub emits : {k : ℕ} {c : Cell} {vs : List ℕ} → finds (cellsOf ws) o ≡ At k → c ≡ nth (cellsOf ws) k
-      → m ≡ sets l (o * 4) (1 ∷ c .input .0 ∷ c .entered .0 ∷ c .tag ∷ []) → Stored ws k free vs → Emitted o ws l vs m
-  emits f q e s = record { long = s .long; cells = rw f (s .cells); words = rw (f, ← q) e }
+      → m ≡ sets l (o * 4) (1 ∷ c .input .0 ∷ c .entered .0 ∷ c .tag ∷ []) → vs ≡ stored ws k free → Emitted o ws l vs m
+  emits {k} f q e s = record { long = ap length s ∙ length-stored ws k free; cells = rw f (ap cellsOf s ∙ cellsOf-stored ws k free); words = rw (f, ← q) e }
 
 -- Output by output -----------------------------------------------------------------------------
 

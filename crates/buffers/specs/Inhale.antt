@@ -1,7 +1,7 @@
 -- One arrival, and where the next one may look for room.
 -- Assumes nothing.
 use Prim.Native.Nat.{ℕ, _+_, _-_, _<_}
-use mathlib.Core.Path.{_≡_, refl, sym, _∙_}
+use mathlib.Core.Path.{_≡_, refl, sym, ap, _∙_}
 use mathlib.Core.List.{List}
 use native.Mathlib.Omega.{arith}
 use native.Mathlib.Numerals.{add-one, sub-one}
@@ -19,7 +19,7 @@ use Rattle.rules.specs.Cells.{inputOf, outputOf, cell, free, nth, isFree, recor
 use Rattle.rules.specs.Answers.{firstWord, tagWord, arrives}
 use Rattle.rules.specs.Phases.{lowestFree, arrival, enter, inhale}
 use Rattle.words.specs.Words.{length-cellsOf}
-use Rattle.table.specs.Table.{Stored, stored-records, NoneBelow}
+use Rattle.table.specs.Table.{stored, length-stored, records-stored, cellsOf-stored, NoneBelow}
 
 -- the words ws become vs by the arrival at input i, and below `next` no record of them is free
 pub record Entered (t : Slot) (arrivals : List ℕ) (i : ℕ) (ws vs : List ℕ) (next : ℕ) : Type 0 where
@@ -54,18 +54,19 @@ module _ (t : Slot) (arrivals : List ℕ) (i : ℕ) (ws : List ℕ) where
     waits = refl
 
     -- below the record that the cell takes, and there, none is free afterwards
-    pub arrived : (vs : List ℕ) → (firstWord arrivals i ≡ 0 → ⊥) → Stored ws k (cell 1 (inputOf i) (outputOf (firstWord arrivals i - 1)) t (tagWord arrivals i)) vs
+    pub arrived : (vs : List ℕ) → (firstWord arrivals i ≡ 0 → ⊥) → vs ≡ stored ws k (cell 1 (inputOf i) (outputOf (firstWord arrivals i - 1)) t (tagWord arrivals i))
         → Entered t arrivals i ws vs (k + 1)
     unfolding enter arrives
-    arrived vs e stored =
-        let s : Stored ws k (arrival t arrivals i) vs = rw (sub-one (firstWord arrivals i)) at stored in
+    arrived vs e laid =
+        let s : vs ≡ stored ws k (arrival t arrivals i) = rw (sub-one (firstWord arrivals i)) at laid in
+        let cells : cellsOf vs ≡ set (cellsOf ws) k (arrival t arrivals i) = ap cellsOf s ∙ cellsOf-stored ws k (arrival t arrivals i) in
         let q : enter t arrivals i (cellsOf ws) ≡ set (cellsOf ws) k (arrival t arrivals i) = rw (ne-eqb _ _ e, f) in
         record {
-          long = s .long;
-          cells = s .cells ∙ sym q;
+          long = ap length s ∙ length-stored ws k (arrival t arrivals i);
+          cells = cells ∙ sym q;
           below = record {
-            inside = omega (arith, room-inside ws k f, stored-records s);
-            none = rw (s .cells, add-one k) (below-suc (λ j. No (isFree (nth (set (cellsOf ws) k (arrival t arrivals i)) j))) k others here);
+            inside = omega (arith, room-inside ws k f, ap records s, records-stored ws k (arrival t arrivals i));
+            none = rw (cells, add-one k) (below-suc (λ j. No (isFree (nth (set (cellsOf ws) k (arrival t arrivals i)) j))) k others here);
           };
         }
       where

@@ -7,7 +7,7 @@ use mathlib.Core.Bool.{Bool, true, false, cond}
 use mathlib.Core.List.{List, [], _∷_, _++_}
 use native.Mathlib.Omega.{arith}
 use native.Mathlib.Numerals.{add-one}
-use native.Mathlib.Nat.{suc-mul, mul-le-mul-right}
+use native.Mathlib.Nat.{suc-mul, mul-le-mul-right, add-zero, add-suc, suc-add}
 use lib.Dec.{eqb}
 use lib.ListN.{length, getD, set, take, drop, replicate, length-set, length-append, List·getD-append}
 use lib.Seq.{ext-getD, getD-at, getD-append-add, getD-set-same, getD-set-other, sets, sets-eq, take-at}
@@ -82,6 +82,20 @@ set-tabulate {A} d l k x =
     go : (i : ℕ) → i < length l → (b : Bool) → eqb i k ≡ b → getD (set l k x) i d ≡ cond b x (getD l i d)
     go i m true e = let q : i ≡ k = eqb-true i k e in rw q (getD-set-same l k x d (rw q at m))
     go i m false e = getD-set-other l k i x d (eqb-false i k e)
+
+-- a run of stores: what stands where it reaches, and elsewhere
+module _ {A : Type 0} (d : A) where
+  pub sets-outside : (vs l : List A) (i j : ℕ) → (j < i) ⊎ (i + length vs ≤ j) → getD (sets l i vs) j d ≡ getD l j d
+  sets-outside [] l i j h = refl
+  sets-outside (a ∷ vs) l i j (inl h) = sets-outside vs (set l i a) (suc i) j (inl (omega arith)) ∙ getD-set-other l i j a d (omega arith)
+  sets-outside (a ∷ vs) l i j (inr h) = sets-outside vs (set l i a) (suc i) j (inr (omega arith)) ∙ getD-set-other l i j a d (omega arith)
+
+  pub sets-inside : (vs l : List A) (i r : ℕ) → i + length vs ≤ length l → r < length vs → getD (sets l i vs) (i + r) d ≡ getD vs r d
+  sets-inside [] l i r h k = absurd (omega arith)
+  sets-inside (a ∷ vs) l i zero h k = rw add-zero (sets-outside vs (set l i a) (suc i) i (inl (omega arith)) ∙ getD-set-same l i a d (omega arith))
+  sets-inside (a ∷ vs) l i (suc r) h k =
+      let e : i + suc r ≡ suc i + r = omega arith in
+      rw e (sets-inside vs (set l i a) (suc i) r (rw (length-set l i a) (omega arith)) (omega arith))
 
 -- a list filled block by block: where its front is f 0, .. , f (n-1), a store of f n makes it one block longer
 module _ (f : ℕ → List ℕ) (w : ℕ) (e : (k : ℕ) → length (f k) ≡ w) where

@@ -1,51 +1,39 @@
 -- What a store leaves in the lent words, and where no record is free.
 -- Assumes nothing.
-use Prim.Native.Nat.{ℕ, _+_, _*_, _<_, _≤_}
-use mathlib.Core.Path.{_≡_, sym, ap, _∙_}
+use Prim.Native.Nat.{ℕ, _+_, _<_, _≤_}
+use mathlib.Core.Path.{_≡_, _∙_}
 use mathlib.Core.Bool.{Bool, So}
 use mathlib.Core.List.{List}
 use native.Mathlib.Omega.{arith}
 use native.Mathlib.Numerals.{add-one}
-use lib.ListN.{length, getD, set}
-use lib.Seq.{getD-set-other, set-getD}
+use lib.ListN.{length, set, length-set}
 use borrow.Author.Tests.{eq-eqb, ne-eqb}
 use Rattle.laws.specs.Tests.{No}
 use Rattle.laws.specs.Walk.{below-suc}
 use Rattle.laws.specs.Least.{lowest-nothing, lowest-hit}
 use Rattle.laws.specs.declared.Found.the-variants.{At, Nothing}
 use Rattle.rules.specs.declared.Cell.{Cell}
-use Rattle.rules.specs.Cells.{nth, placed, isFree, isLive, width, records, cellAt, cellsOf, older}
+use Rattle.rules.specs.Cells.{nth, isFree, isLive, records, cellsOf, older}
 use Rattle.rules.specs.Phases.{lowestFree}
-use Rattle.words.specs.Words.{length-cellsOf, nth-cellsOf, same-records, store, length-store, cellsOf-store}
+use Rattle.words.specs.Words.{length-cellsOf, same-records, withRecords, length-with, cellsOf-with}
 
--- the words vs are ws with c as record k
-pub record Stored (ws : List ℕ) (k : ℕ) (c : Cell) (vs : List ℕ) : Type 0 where
-  pub long : length vs ≡ length ws
-  pub cells : cellsOf vs ≡ set (cellsOf ws) k c
+-- the words with c as record k
+abbrev pub stored : List ℕ → ℕ → Cell → List ℕ
+stored ws k c = withRecords ws (set (cellsOf ws) k c)
 
-pub stored : (ws : List ℕ) (k : ℕ) (c : Cell) → k < records ws → Stored ws k c (store ws k c)
-stored ws k c l = record { long = length-store ws k c; cells = cellsOf-store ws k l c }
+module _ (ws : List ℕ) (k : ℕ) (c : Cell) where
+  many : length (set (cellsOf ws) k c) ≡ records ws
+  many = length-set (cellsOf ws) k c ∙ length-cellsOf ws
 
--- the records stay as many as they were
-pub stored-records : {ws vs : List ℕ} {k : ℕ} {c : Cell} → Stored ws k c vs → records vs ≡ records ws
-stored-records {ws} {vs} s = same-records vs ws (s .long)
+  -- they are as many as they were, and so are the records
+  pub length-stored : length (stored ws k c) ≡ length ws
+  length-stored = length-with ws (set (cellsOf ws) k c) many
 
--- to store what stands there changes nothing
-kept : (l : List ℕ) (i v : ℕ) → getD l i 0 ≡ v → set l i v ≡ l
-kept l i v e = ap (set l i) (sym e) ∙ set-getD l i 0
+  pub records-stored : records (stored ws k c) ≡ records ws
+  records-stored = same-records (stored ws k c) ws length-stored
 
--- another place is a store of one word
-pub stored-place : (ws : List ℕ) (k p : ℕ) → k < records ws → Stored ws k (placed p (nth (cellsOf ws) k)) (set ws (k * width) p)
-stored-place ws k p l = rw (nth-cellsOf ws k l) (rw one-word at (stored ws k (placed p (cellAt ws k)) l))
-  where
-    vs : List ℕ
-    vs = set ws (k * width) p
-
-    same : (r : ℕ) → 0 < r → set vs (k * width + r) (getD ws (k * width + r) 0) ≡ vs
-    same r h = kept vs (k * width + r) _ (getD-set-other ws (k * width) (k * width + r) p 0 (omega arith))
-
-    one-word : store ws k (placed p (cellAt ws k)) ≡ set ws (k * width) p
-    one-word = rw (same 1 (omega arith), same 2 (omega arith), same 3 (omega arith), same 4 (omega arith))
+  pub cellsOf-stored : cellsOf (stored ws k c) ≡ set (cellsOf ws) k c
+  cellsOf-stored = cellsOf-with ws (set (cellsOf ws) k c) many
 
 -- whether a record read is live, by its place
 pub is-live : {c d : Cell} → c ≡ d → (c .place ≡ 0 → ⊥) → So (isLive d)

@@ -15,7 +15,7 @@ ghost use Rattle.laws.specs.First.{firstFound};
 ghost use Rattle.rules.specs.Cells.{free, placed, nth, records, isWhole, cellsOf, isReadyFor, older};
 ghost use Rattle.rules.specs.Answers.{live};
 ghost use Rattle.rules.specs.Phases.{lowestFree, readings, oldestReady};
-ghost use Rattle.table.specs.Table.{Stored, NoneBelow, olderAt};
+ghost use Rattle.table.specs.Table.{stored, NoneBelow, olderAt};
 ghost use Rattle.table.specs.Reading.{bumped, isCounted};
 
 pub fn record_count(table: &[u32]) -> usize
@@ -60,7 +60,7 @@ pub fn cell_at(table: &[u32], k: usize) -> Cell
 // Record k becomes the cell c.
 pub fn put_cell(table: &mut [u32], k: usize, c: Cell)
     requires { ⌜ k < records (now table) ⌝ }
-    ensures { λ _. ⌜ Stored (now (table .entry)) k c (now (table .exit)) ⌝ }
+    ensures { λ _. ⌜ now (table .exit) ≡ stored (now (table .entry)) k c ⌝ }
 {
     let at = k * 5;
     table[at] = c.place;
@@ -73,7 +73,7 @@ pub fn put_cell(table: &mut [u32], k: usize, c: Cell)
 // Record k gets another place; its other four fields stay.
 pub fn set_place(table: &mut [u32], k: usize, place: u32)
     requires { ⌜ k < records (now table) ⌝ }
-    ensures { λ _. ⌜ Stored (now (table .entry)) k (placed place (nth (cellsOf (now (table .entry))) k)) (now (table .exit)) ⌝ }
+    ensures { λ _. ⌜ now (table .exit) ≡ stored (now (table .entry)) k (placed place (nth (cellsOf (now (table .entry))) k)) ⌝ }
 {
     table[k * 5] = place;
 }
@@ -81,7 +81,7 @@ pub fn set_place(table: &mut [u32], k: usize, place: u32)
 // Record k becomes free, all zeros.
 pub fn free_record(table: &mut [u32], k: usize)
     requires { ⌜ k < records (now table) ⌝ }
-    ensures { λ _. ⌜ Stored (now (table .entry)) k free (now (table .exit)) ⌝ }
+    ensures { λ _. ⌜ now (table .exit) ≡ stored (now (table .entry)) k free ⌝ }
 {
     put_cell(
         table,

@@ -1,11 +1,12 @@
 -- Each part is what the call for it says, of the cell that was read.
 use Prim.Native.Nat.{_<_}
-use mathlib.Core.Path.{ap}
-use lib.ListN.{set}
+use mathlib.Core.Path.{ap, _∙_}
+use lib.ListN.{length, set}
 use denote.Ref.{now}
 use Rattle.rules.specs.declared.Cell.{Cell}
+use Rattle.rules.specs.Cells.{records, cellsOf}
 use Rattle.words.specs.Words.{length-cellsOf}
-use Rattle.table.specs.Table.{stored-records}
+use Rattle.table.specs.Table.{length-stored, records-stored, cellsOf-stored}
 use Rattle.queues.specs.Heads.{queues-take}
 use borrow.Author.Needs.{needs}
 use Rattle.matching.proofs.take.Statement.{statement}
@@ -26,7 +27,7 @@ renew-requires c κs =
     let p = c .before .before .before .before .before .before .before .before .before .before .pre in
     let s = c .before .before .before .before .set-place .ensures in
     let i = ports-of (c .before .before .before .before .before .before) in
-    (rw (stored-records s) (p .1 .0), (i .0, (i .1, rw (s .cells, c .before .before .before .before .before .before .cell-at .ensures) (queues-take (p .1 .1 .0) _ (rw (length-cellsOf (now (c .before .before .before .before .before .before .before .before .before .before .args .table))) (p .0))))))
+    (rw (ap records s ∙ records-stored _ _ _) (p .1 .0), (i .0, (i .1, rw (ap cellsOf s ∙ cellsOf-stored _ _ _, c .before .before .before .before .before .before .cell-at .ensures) (queues-take (p .1 .1 .0) _ (rw (length-cellsOf (now (c .before .before .before .before .before .before .before .before .before .before .args .table))) (p .0))))))
 
 cast-o : tie.Need-cast-o
 cast-o c = search needs
@@ -53,11 +54,11 @@ returns : tie.Need-returns
 returns c =
     let e = c .before .before .before .before .before .before .before .before .before .before .before .before .cell-at .ensures in
     let s = c .before .before .before .before .before .before .before .before .before .before .set-place .ensures in (
-      s .long,
+      ap length s ∙ length-stored _ _ _,
       (
         c .before .before .before .before .before .renew .ensures,
         record {
-          cells = s .cells;
+          cells = ap cellsOf s ∙ cellsOf-stored _ _ _;
           inputs = rw (← e) (c .before .with .ensures);
           outputs = rw (← e) (c .with2 .ensures);
           served = ap (λ (d : Cell). set (now (c .before .before .before .before .before .before .before .before .before .before .before .before .before .before .before .before .args .served)) (d .output .0) (d .input .0)) e;

@@ -1,8 +1,9 @@
 -- Record k lies within the words; its five stores are the `store` of the table's words.
 use native.Mathlib.Omega.{arith}
+use native.Mathlib.Numerals.{towards-suc}
 use lib.ListN.{length-set}
 use Rattle.rules.specs.Cells.{records}
-use Rattle.table.specs.Table.{stored}
+use Rattle.words.specs.Words.{store-with}
 use borrow.Author.Needs.{needs}
 use Rattle.table.proofs.put_cell.Statement.{statement}
 use Rattle.table.proofs.put_cell.Tie as tie
@@ -71,7 +72,7 @@ same-length : tie.Need-same-length
 same-length c = search needs
 
 returns : tie.Need-returns
-returns c = stored _ _ (c .args .c) (c .pre)
+returns c = simp towards-suc (store-with _ _ (c .pre) (c .args .c))
 
 pub put-cell-spec : {M : Type 1} → statement M
 put-cell-spec =

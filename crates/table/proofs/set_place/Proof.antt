@@ -1,7 +1,7 @@
 -- One store; the other four words of the record stay.
 use native.Mathlib.Omega.{arith}
 use Rattle.rules.specs.Cells.{records}
-use Rattle.table.specs.Table.{stored-place}
+use Rattle.words.specs.Words.{place-with}
 use borrow.Author.Needs.{needs}
 use Rattle.table.proofs.set_place.Statement.{statement}
 use Rattle.table.proofs.set_place.Tie as tie
@@ -22,7 +22,7 @@ same-length : tie.Need-same-length
 same-length c = search needs
 
 returns : tie.Need-returns
-returns c = stored-place _ _ _ (c .pre)
+returns c = place-with _ _ (c .pre) _
 
 pub set-place-spec : {M : Type 1} → statement M
 set-place-spec = tie.close (tie.spec mul-table mul-table-2 slice-write-table same-length returns)
