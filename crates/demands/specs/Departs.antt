@@ -11,14 +11,14 @@ use lib.ListN.{length}
 use Rattle.laws.specs.Tests.{No, both}
 use Rattle.rules.specs.declared.Cell.{Cell}
 use Rattle.rules.specs.Cells.{nth, cellsOf, older}
-use Rattle.rules.specs.Answers.{arrives}
+use Rattle.rules.specs.Answers.{Lists, arrives}
 use Rattle.rules.specs.Phases.{arrival, readings, exhaled}
 use Rattle.rules.specs.Calls.{State, Call, starts, slots, transferred, slotRuns, does, run}
 use Rattle.rules.specs.Demands.{isAccepted, restarts, runsSlot, unbroken, callAt, stateAt, inhaled, atExhale, elders, emits, emitted, Leaves}
 use Rattle.ideal.specs.Fit.{Fit}
 use Rattle.ideal.specs.Exhaled.{shown, shown→}
 use Rattle.ideal.specs.Calls.{Accepted, after, entered-fit, after-fit, slot-cells}
-use Rattle.ideal.specs.Runs.{Kept, slot-accepts, slot-does, stretch-at}
+use Rattle.ideal.specs.Runs.{KeptBySlots, slot-accepts, slot-does, stretch-at}
 use Rattle.demands.specs.Ages.{age}
 use Rattle.demands.specs.Led.{Led}
 use Rattle.demands.specs.States.{Good, good-kept, taken-in, slot-leads}
@@ -27,50 +27,50 @@ use Rattle.demands.specs.Due.{Due, due-hold, inhale-holds, due-phases, d
 
 -- An accepted slot -------------------------------------------------------------------------------
 
-module _ (x : State) (arrivals matches exhaled′ : List ℕ) (h : So (isAccepted x (slots arrivals matches exhaled′))) (g : Good x) where
+module _ (x : State) (ls : Lists) (h : So (isAccepted x (slots ls))) (g : Good x) where
   abbrev call : Call
-  call = slots arrivals matches exhaled′
+  call = slots ls
 
-  a : Accepted (x .numbers) (x .table) arrivals matches exhaled′
-  a = slot-accepts x arrivals matches exhaled′ h
+  a : Accepted (x .numbers) (x .table) ls
+  a = slot-accepts x ls h
 
   -- the exhaled list is that of the table at the exhale
-  shows-table : does x call .exhaled ≡ exhaled (x .numbers .ports) (atExhale x arrivals)
+  shows-table : does x call .exhaled ≡ exhaled (x .numbers .ports) (atExhale x (ls .arrivals))
   unfolding slotRuns atExhale inhaled
-  shows-table = ap (λ s. s .exhaled) (slot-does x arrivals matches exhaled′ h)
+  shows-table = ap (λ s. s .exhaled) (slot-does x ls h)
 
-  exhale-fits : Fit (x .numbers .ports) (record { 0 = suc (x .numbers .next .0) }) (atExhale x arrivals)
+  exhale-fits : Fit (x .numbers .ports) (record { 0 = suc (x .numbers .next .0) }) (atExhale x (ls .arrivals))
   unfolding atExhale inhaled transferred
   exhale-fits = after-fit a (x .numbers .speedup)
 
   module _ (fast : 3 ≤ x .numbers .speedup) where
-    leads : Led (length (atExhale x arrivals)) age (nth (atExhale x arrivals))
+    leads : Led (length (atExhale x (ls .arrivals))) age (nth (atExhale x (ls .arrivals)))
     unfolding atExhale inhaled transferred
     leads = slot-leads a (g .clock) fast (g .slack fast)
 
     -- "whenever there are any cells in the switch destined to output o .., output o exhales some cell"
-    pub work-conserving : (k : ℕ) → k < length (atExhale x arrivals) → 1 ≤ nth (atExhale x arrivals) k .place → So (emits (does x call .exhaled) (nth (atExhale x arrivals) k .output .0))
+    pub work-conserving : (k : ℕ) → k < length (atExhale x (ls .arrivals)) → 1 ≤ nth (atExhale x (ls .arrivals)) k .place → So (emits (does x call .exhaled) (nth (atExhale x (ls .arrivals)) k .output .0))
     work-conserving k l w =
         let d = works exhale-fits leads k l w in
-        rw shows-table (subst (λ o. So (emits (exhaled (x .numbers .ports) (atExhale x arrivals)) o)) (d .3) (shown (x .numbers .ports) (atExhale x arrivals) (d .0) (d .2) .0))
+        rw shows-table (subst (λ o. So (emits (exhaled (x .numbers .ports) (atExhale x (ls .arrivals))) o)) (d .3) (shown (x .numbers .ports) (atExhale x (ls .arrivals)) (d .0) (d .2) .0))
 
     -- "there are no cells in the switch destined to output o that precede c"
-    pub order-conserving : (o : ℕ) → o < x .numbers .ports → So (emits (does x call .exhaled) o) → (k : ℕ) → k < length (atExhale x arrivals) → 1 ≤ nth (atExhale x arrivals) k .place
-        → nth (atExhale x arrivals) k .output .0 ≡ o → No (older (nth (atExhale x arrivals) k) (emitted (does x call .exhaled) o))
+    pub order-conserving : (o : ℕ) → o < x .numbers .ports → So (emits (does x call .exhaled) o) → (k : ℕ) → k < length (atExhale x (ls .arrivals)) → 1 ≤ nth (atExhale x (ls .arrivals)) k .place
+        → nth (atExhale x (ls .arrivals)) k .output .0 ≡ o → No (older (nth (atExhale x (ls .arrivals)) k) (emitted (does x call .exhaled) o))
     order-conserving o m e k l w q =
-        let d = shown→ (x .numbers .ports) (atExhale x arrivals) o m (rw shows-table at e) in
+        let d = shown→ (x .numbers .ports) (atExhale x (ls .arrivals)) o m (rw shows-table at e) in
         rw (shows-table, d .4) (orders (a .sizes .ports .1) exhale-fits leads (d .0) k (d .2) l w (q ∙ sym (d .3)))
 
     -- a cell that is due is shown in its slot and in no other, and is due afterwards
-    slot-due : {c : Cell} {s : ℕ} → Due c s (x .numbers .next .0) (inhaled x arrivals)
+    slot-due : {c : Cell} {s : ℕ} → Due c s (x .numbers .next .0) (inhaled x (ls .arrivals))
         → Leaves c s (x .numbers) (does x call .exhaled) × Due c s (does x call .after .numbers .next .0) (cellsOf (does x call .after .table))
     unfolding inhaled atExhale transferred slotRuns
     slot-due d =
-        let e = due-exhale (x .numbers) (a .sizes .ports .1) exhale-fits leads (due-phases (entered-fit a) (readings (inhaled x arrivals)) d (x .numbers .speedup)) in
-        rw (slot-does x arrivals matches exhaled′ h, slot-cells a) e
+        let e = due-exhale (x .numbers) (a .sizes .ports .1) exhale-fits leads (due-phases (entered-fit a) (readings (inhaled x (ls .arrivals))) d (x .numbers .speedup)) in
+        rw (slot-does x ls h, slot-cells a) e
 
   -- the cell that arrives at input i, in the slot in which it enters
-  arrival-due : (i : ℕ) → i < x .numbers .ports → So (arrives arrivals i) → let c : Cell = arrival (x .numbers .next) arrivals i in Due c (x .numbers .next .0 + elders (inhaled x arrivals) c) (x .numbers .next .0) (inhaled x arrivals)
+  arrival-due : (i : ℕ) → i < x .numbers .ports → So (arrives (ls .arrivals) i) → let c : Cell = arrival (x .numbers .next) (ls .arrivals) i in Due c (x .numbers .next .0 + elders (inhaled x (ls .arrivals)) c) (x .numbers .next .0) (inhaled x (ls .arrivals))
   unfolding inhaled
   arrival-due i l y =
       let q = taken-in a (g .clock) .came i l y in
@@ -86,51 +86,51 @@ record Carries (c : Cell) (s : ℕ) (x : State) : Type 0 where
   due : Due c s (x .numbers .next .0) (cellsOf (x .table))
 
 module _ (c : Cell) (s : ℕ) where
-  module _ (x : State) (arrivals matches exhaled′ : List ℕ) (h : So (isAccepted x (slots arrivals matches exhaled′))) where
+  module _ (x : State) (ls : Lists) (h : So (isAccepted x (slots ls))) where
     -- an accepted slot after that of entry
     carried : Carries c s x
-        → Leaves c s (x .numbers) (does x (slots arrivals matches exhaled′) .exhaled) × Due c s (does x (slots arrivals matches exhaled′) .after .numbers .next .0) (cellsOf (does x (slots arrivals matches exhaled′) .after .table))
+        → Leaves c s (x .numbers) (does x (slots ls) .exhaled) × Due c s (does x (slots ls) .after .numbers .next .0) (cellsOf (does x (slots ls) .after .table))
     unfolding inhaled
     carried p =
-        let b = slot-accepts x arrivals matches exhaled′ h in
-        slot-due x arrivals matches exhaled′ h (p .good) (p .fast) (due-hold (inhale-holds (taken-in b (p .good .clock)) (b .fits)) (p .entered) (p .due))
+        let b = slot-accepts x ls h in
+        slot-due x ls h (p .good) (p .fast) (due-hold (inhale-holds (taken-in b (p .good .clock)) (b .fits)) (p .entered) (p .due))
 
     carries : Good x → 3 ≤ x .numbers .speedup → c .entered .0 ≤ x .numbers .next .0
-        → Due c s (does x (slots arrivals matches exhaled′) .after .numbers .next .0) (cellsOf (does x (slots arrivals matches exhaled′) .after .table)) → Carries c s (does x (slots arrivals matches exhaled′) .after)
+        → Due c s (does x (slots ls) .after .numbers .next .0) (cellsOf (does x (slots ls) .after .table)) → Carries c s (does x (slots ls) .after)
     unfolding slotRuns
     carries g fast e d =
-        record { good = good-kept x arrivals matches exhaled′ h g; fast = rw (slot-does x arrivals matches exhaled′ h) fast; entered = rw (slot-does x arrivals matches exhaled′ h) (omega arith); due = d }
+        record { good = good-kept x ls h g; fast = rw (slot-does x ls h) fast; entered = rw (slot-does x ls h) (omega arith); due = d }
 
-  carries-kept : Kept (Carries c s)
-  carries-kept x arrivals matches exhaled′ h p = carries x arrivals matches exhaled′ h (p .good) (p .fast) (omega (arith, p .entered)) (carried x arrivals matches exhaled′ h p .1)
+  carries-kept : KeptBySlots (Carries c s)
+  carries-kept x ls h p = carries x ls h (p .good) (p .fast) (omega (arith, p .entered)) (carried x ls h p .1)
 
   shown-in : (x : State) (d : Call) → So (runsSlot x d) → Carries c s x → Leaves c s (x .numbers) (does x d .exhaled)
   unfolding runsSlot
   shown-in x (starts w) h p = absurd (false≢true h)
-  shown-in x (slots arrivals matches exhaled′) h p = carried x arrivals matches exhaled′ h p .0
+  shown-in x (slots ls) h p = carried x ls h p .0
 
 -- in the slot of entry and through any later calls up to the next accepted fresh start
-pub departs : (x : State) → Good x → 3 ≤ x .numbers .speedup → (arrivals matches exhaled′ : List ℕ) → So (isAccepted x (slots arrivals matches exhaled′))
-    → (i : ℕ) → i < x .numbers .ports → So (arrives arrivals i) → (later : List Call) → So (unbroken x (slots arrivals matches exhaled′ ∷ later)) → (j : ℕ)
-    → So (runsSlot (stateAt x (slots arrivals matches exhaled′ ∷ later) j) (callAt (slots arrivals matches exhaled′ ∷ later) j))
-    → Leaves (arrival (x .numbers .next) arrivals i) (x .numbers .next .0 + elders (inhaled x arrivals) (arrival (x .numbers .next) arrivals i))
-    (stateAt x (slots arrivals matches exhaled′ ∷ later) j .numbers) (does (stateAt x (slots arrivals matches exhaled′ ∷ later) j) (callAt (slots arrivals matches exhaled′ ∷ later) j) .exhaled)
+pub departs : (x : State) → Good x → 3 ≤ x .numbers .speedup → (ls : Lists) → So (isAccepted x (slots ls))
+    → (i : ℕ) → i < x .numbers .ports → So (arrives (ls .arrivals) i) → (later : List Call) → So (unbroken x (slots ls ∷ later)) → (j : ℕ)
+    → So (runsSlot (stateAt x (slots ls ∷ later) j) (callAt (slots ls ∷ later) j))
+    → Leaves (arrival (x .numbers .next) (ls .arrivals) i) (x .numbers .next .0 + elders (inhaled x (ls .arrivals)) (arrival (x .numbers .next) (ls .arrivals) i))
+    (stateAt x (slots ls ∷ later) j .numbers) (does (stateAt x (slots ls ∷ later) j) (callAt (slots ls ∷ later) j) .exhaled)
 unfolding stateAt run unbroken
-departs x g fast arrivals matches exhaled′ h i l y later u zero r = slot-due x arrivals matches exhaled′ h g fast (arrival-due x arrivals matches exhaled′ h g i l y) .0
-departs x g fast arrivals matches exhaled′ h i l y later u (suc j) r =
+departs x g fast ls h i l y later u zero r = slot-due x ls h g fast (arrival-due x ls h g i l y) .0
+departs x g fast ls h i l y later u (suc j) r =
     shown-in c s (stateAt x₁ later j) (callAt later j) r (stretch-at (Carries c s) (carries-kept c s) x₁ later (both (not (restarts x call′)) _ u .1) first j)
   where
     c : Cell
-    c = arrival (x .numbers .next) arrivals i
+    c = arrival (x .numbers .next) (ls .arrivals) i
 
     s : ℕ
-    s = x .numbers .next .0 + elders (inhaled x arrivals) c
+    s = x .numbers .next .0 + elders (inhaled x (ls .arrivals)) c
 
     call′ : Call
-    call′ = slots arrivals matches exhaled′
+    call′ = slots ls
 
     x₁ : State
     x₁ = does x call′ .after
 
     first : Carries c s x₁
-    first = carries c s x arrivals matches exhaled′ h g fast (omega arith) (slot-due x arrivals matches exhaled′ h g fast (arrival-due x arrivals matches exhaled′ h g i l y) .1)
+    first = carries c s x ls h g fast (omega arith) (slot-due x ls h g fast (arrival-due x ls h g i l y) .1)

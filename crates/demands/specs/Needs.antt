@@ -3,25 +3,21 @@
 use mathlib.Core.Path.{_≡_, refl}
 use mathlib.Core.Bool.{So}
 use mathlib.Core.List.{List, [], _∷_}
-use Prim.Native.Nat.{_+_}
+use Prim.Native.Nat.{_+_, _*_}
 use lib.ListN.{replicate}
 use Rattle.laws.specs.Tests.{No}
-use Rattle.laws.specs.Walk.{over}
-use Rattle.laws.specs.Count.{count, every, any}
-use Rattle.laws.specs.Order.{lower}
-use Rattle.laws.specs.Least.{least}
-use Rattle.laws.specs.Lists.{tabulate, blocks}
 use Rattle.rules.specs.declared.Cell.{Cell}
-use Rattle.rules.specs.Cells.{switch, sameInput, sameOutput, sameSlot, isFree, isWaiting, isReady, isLive, isReadyFor, records, isWhole, cellsOf, wordsOf, isBlank, isSound, sameEntry, isAlone, fit, older, readingFor, before}
-use Rattle.rules.specs.Answers.{isDone, firstWord, tagWord, arrives, arriving, live, lengthsFit, outside, firstOf, freshAnswer, slotAnswer}
-use Rattle.rules.specs.Phases.{arrival, lowestFree, enter, inhale, readyCount, readings, conflict, isOpen, firstOpen, none, add, round, matchOf, moved, phase, phases, matchWords, matches, oldestReady, isEmitted, exhale, exhaled}
-use Rattle.rules.specs.Calls.{State, Call, starts, freshStart, entered, transferred, slotRuns, slot, does, run}
-use Rattle.rules.specs.Demands.{isAccepted, restarts, runsSlot, unbroken, callAt, stateAt, inhaled, isElder, elders, emits}
+use Rattle.rules.specs.Cells.{switch, width}
+use Rattle.rules.specs.Answers.{arrives}
+use Rattle.rules.specs.Phases.{arrival}
+use Rattle.rules.specs.Calls.{State, Call, starts, does, run}
+use Rattle.rules.specs.Demands.{isAccepted, runsSlot, unbroken, callAt, stateAt, inhaled, elders, emits}
+use Rattle.rules.specs.Computing.{Computing}
 use Rattle.rules.specs.Examples.{arrivalsOf, bothSend, oneSends}
 
 -- "N 2, S 1, fresh. Slot 0: both inputs send to output 0. Slot 1: input 1 sends to output 1."
 abbrev pub origin : State
-origin = record { numbers = switch 0 0 0; table = replicate 20 7 }
+origin = record { numbers = switch 0 0 0; table = replicate (4 * width) 7 }
 
 abbrev pub before-it : State
 before-it = run origin (starts (switch 2 1 9) ∷ arrivalsOf 2 1 bothSend ∷ [])
@@ -46,5 +42,5 @@ pub record Example : Type 0 where
   pub idle : No (emits (does (stateAt before-it calls 0) (callAt calls 0) .exhaled) (sent .output .0))
 
 pub example : Example
-unfolding over count every any lower least tabulate blocks sameInput sameOutput sameSlot isFree isWaiting isReady isLive isReadyFor records isWhole cellsOf wordsOf isBlank isSound sameEntry isAlone fit older readingFor before isDone firstWord tagWord arrives arriving live lengthsFit outside firstOf freshAnswer slotAnswer lowestFree enter inhale readyCount readings conflict isOpen firstOpen none add round matchOf moved phase phases matchWords matches oldestReady isEmitted exhale exhaled freshStart entered transferred slotRuns slot does run isAccepted inhaled isElder elders emits runsSlot restarts unbroken stateAt
+unfolding Computing
 example = record { starts-fresh = refl; speedup = refl; ports = refl; arrived = refl; accepted = refl; whole = refl; slot = refl; due = refl; idle = refl }

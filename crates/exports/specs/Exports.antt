@@ -1,16 +1,18 @@
 -- The rules' fresh start and slot on words alone: the switch's numbers as three words, the answer as its number.
 -- Assumes nothing.
-use Prim.Native.Nat.{ℕ, suc}
-use mathlib.Core.Path.{_≡_, refl, sym, ap}
+use Prim.Native.Nat.{ℕ, zero, suc, _<_}
+use mathlib.Core.Path.{_≡_, refl, sym}
 use mathlib.Core.Bool.{cond}
 use mathlib.Core.List.{List, [], _∷_}
 use native.Mathlib.Omega.{arith}
 use borrow.Author.Tests.{eq-eqb, ne-eqb}
 use lib.Dec.{eqb}
-use lib.ListN.{length, getD, set}
+use lib.ListN.{length, getD}
+use lib.Seq.{ext-getD, sets}
+use Rattle.laws.specs.Lists.{sets-all}
 use Rattle.rules.specs.declared.Switch.{Switch}
 use Rattle.rules.specs.Cells.{switch}
-use Rattle.rules.specs.Answers.{numberOf}
+use Rattle.rules.specs.Answers.{Lists, numberOf}
 use Rattle.rules.specs.Calls.{Started, Outcome, freshStart, slot}
 
 -- N, S and t
@@ -37,17 +39,17 @@ pub record StartedWords : Type 0 where
 abbrev pub startedWords : Started → StartedWords
 startedWords s = record { number = numberOf (s .answer); numbers = numbersOf (s .numbers); table = s .table }
 
-unfoldable pub freshStartWords : List ℕ → List ℕ → StartedWords
-freshStartWords numbers table =
+unfoldable pub startOfWords : List ℕ → List ℕ → StartedWords
+startOfWords numbers table =
     cond (eqb (length numbers) numberWidth) (startedWords (freshStart (switchOf numbers) table)) (record { number = noNumbers; numbers = numbers; table = table })
 
-pub started-numbered : (numbers table : List ℕ) → length numbers ≡ numberWidth → freshStartWords numbers table ≡ startedWords (freshStart (switchOf numbers) table)
-unfolding freshStartWords
-started-numbered numbers table e = rw (eq-eqb (length numbers) 3 e) refl
+pub started-numbered : (numbers table : List ℕ) → length numbers ≡ numberWidth → startOfWords numbers table ≡ startedWords (freshStart (switchOf numbers) table)
+unfolding startOfWords
+started-numbered numbers table e = rw (eq-eqb (length numbers) numberWidth e) refl
 
-pub started-unnumbered : (numbers table : List ℕ) → (length numbers ≡ numberWidth → ⊥) → freshStartWords numbers table ≡ record { number = noNumbers; numbers = numbers; table = table }
-unfolding freshStartWords
-started-unnumbered numbers table d = rw (ne-eqb (length numbers) 3 d) refl
+pub started-unnumbered : (numbers table : List ℕ) → (length numbers ≡ numberWidth → ⊥) → startOfWords numbers table ≡ record { number = noNumbers; numbers = numbers; table = table }
+unfolding startOfWords
+started-unnumbered numbers table d = rw (ne-eqb (length numbers) numberWidth d) refl
 
 -- A slot ---------------------------------------------------------------------------------------
 
@@ -62,32 +64,34 @@ abbrev pub outcomeWords : Outcome → OutcomeWords
 outcomeWords s =
     record { number = numberOf (s .answer); numbers = numbersOf (s .numbers); table = s .table; matches = s .matches; exhaled = s .exhaled }
 
-unfoldable pub slotWords : List ℕ → List ℕ → List ℕ → List ℕ → List ℕ → OutcomeWords
-slotWords numbers table arrivals matches exhaled =
-    cond
-    (eqb (length numbers) numberWidth)
-    (outcomeWords (slot (switchOf numbers) table arrivals matches exhaled))
-    (record { number = noNumbers; numbers = numbers; table = table; matches = matches; exhaled = exhaled })
+-- the numbers are none: all is left as found
+abbrev pub unnumbered : List ℕ → List ℕ → Lists → OutcomeWords
+unnumbered numbers table l = record { number = noNumbers; numbers = numbers; table = table; matches = l .matches; exhaled = l .exhaled }
 
-module _ (numbers table arrivals matches exhaled : List ℕ) where
-  pub slot-numbered : length numbers ≡ numberWidth → slotWords numbers table arrivals matches exhaled ≡ outcomeWords (slot (switchOf numbers) table arrivals matches exhaled)
-  unfolding slotWords
-  slot-numbered e = rw (eq-eqb (length numbers) 3 e) refl
+unfoldable pub slotOfWords : List ℕ → List ℕ → Lists → OutcomeWords
+slotOfWords numbers table l = cond (eqb (length numbers) numberWidth) (outcomeWords (slot (switchOf numbers) table l)) (unnumbered numbers table l)
 
-  pub slot-unnumbered : (length numbers ≡ numberWidth → ⊥) → slotWords numbers table arrivals matches exhaled ≡ record { number = noNumbers; numbers = numbers; table = table; matches = matches; exhaled = exhaled }
-  unfolding slotWords
-  slot-unnumbered d = rw (ne-eqb (length numbers) 3 d) refl
+module _ (numbers table : List ℕ) (l : Lists) where
+  pub slot-numbered : length numbers ≡ numberWidth → slotOfWords numbers table l ≡ outcomeWords (slot (switchOf numbers) table l)
+  unfolding slotOfWords
+  slot-numbered e = rw (eq-eqb (length numbers) numberWidth e) refl
 
--- Three words ----------------------------------------------------------------------------------
+  pub slot-unnumbered : (length numbers ≡ numberWidth → ⊥) → slotOfWords numbers table l ≡ unnumbered numbers table l
+  unfolding slotOfWords
+  slot-unnumbered d = rw (ne-eqb (length numbers) numberWidth d) refl
+
+-- The words of the numbers -----------------------------------------------------------------------
 
 -- the numbers of a refused call come back as they came
 pub as-found : (ns : List ℕ) → length ns ≡ numberWidth → numbersOf (switchOf ns) ≡ ns
-as-found (x ∷ y ∷ z ∷ []) e = refl
-as-found [] e = absurd (omega (arith, e))
-as-found (x ∷ []) e = absurd (omega (arith, e))
-as-found (x ∷ y ∷ []) e = absurd (omega (arith, e))
-as-found (x ∷ y ∷ z ∷ v ∷ vs) e = absurd (omega (arith, e))
+as-found ns e = ext-getD 0 (numbersOf (switchOf ns)) ns (sym e) (λ i l. each i l)
+  where
+    each : (i : ℕ) → i < numberWidth → getD (numbersOf (switchOf ns)) i 0 ≡ getD ns i 0
+    each zero l = refl
+    each (suc zero) l = refl
+    each (suc (suc zero)) l = refl
+    each (suc (suc (suc i))) l = absurd (omega arith)
 
--- three stores make a list of three words
-pub three-set : (ns : List ℕ) (a b c : ℕ) → length ns ≡ numberWidth → set (set (set ns 0 a) 1 b) 2 c ≡ a ∷ b ∷ c ∷ []
-three-set ns a b c e = ap (λ (x : List ℕ). set (set (set x 0 a) 1 b) 2 c) (sym (as-found ns e))
+-- stores of all of them make the list of the numbers
+pub all-set : (ns : List ℕ) (w : Switch) → length ns ≡ numberWidth → sets ns 0 (numbersOf w) ≡ numbersOf w
+all-set ns w e = sets-all ns (numbersOf w) e

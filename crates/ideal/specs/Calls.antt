@@ -2,7 +2,7 @@
 -- Assumes nothing.
 use mathlib.Core.Path.{_≡_, refl, ap}
 use mathlib.Core.Logic.{⊎-elim}
-use mathlib.Core.Bool.{So, not, _||_, false≢true}
+use mathlib.Core.Bool.{So, not}
 use mathlib.Core.List.{List}
 use Prim.Native.Nat.{ℕ, suc, _+_, _*_, _≤_, _<_}
 use native.Mathlib.Omega.{arith}
@@ -10,15 +10,16 @@ use native.Mathlib.Nat.{eq-zero-or-pos}
 use lib.Dec.{eqb, ltb}
 use lib.ListN.{length}
 use borrow.Author.Tests.{eqb-true, eqb-false, ltb-false, not-false}
-use Rattle.laws.specs.Tests.{No, passes, both, neither, cond-true, cond-false}
+use Rattle.laws.specs.Tests.{No, both, neither, to-no, cond-true, cond-false}
 use Rattle.laws.specs.Walk.{over}
-use Rattle.laws.specs.Count.{none→}
+use Rattle.laws.specs.Count.{any, none→}
 use Rattle.rules.specs.declared.Cell.{Cell}
 use Rattle.rules.specs.declared.Switch.{Switch}
 use Rattle.rules.specs.declared.Answer.{Answer}
 use Rattle.rules.specs.declared.Answer.the-variants.{Done, BadPorts, BadSpeedup, BadRecords, Unfit, BadLists, NoSuchOutput, ClockSpent, NoRoom}
 use Rattle.rules.specs.Cells.{mostPorts, mostSpeedup, mostRecords, lastSlot, slotOf, nth, isWhole, records, cellsOf}
-use Rattle.rules.specs.Answers.{numberOf, isDone, outside, arrivalWidth, exhaledWidth, lengthsFit, firstWord, arriving, live, freshAnswer, slotAnswer}
+use Rattle.rules.specs.Answers.{Lists, isDone, outside, arrivalWidth, exhaledWidth, lengthsFit, firstWord, arriving, live, firstOf, freshAnswer, slotAnswer}
+use Rattle.rules.specs.Answers.{sizeChecks, tableChecks, listChecks, arrivalChecks, clockChecks, roomChecks, freshChecks, slotChecks}
 use Rattle.rules.specs.Phases.{readings, matchOf, phases, isEmitted, exhale}
 use Rattle.rules.specs.Calls.{startsFresh, startRefused, freshStart, entered, transferred, slotRuns, slotRefused, slot}
 use Rattle.rules.specs.Model.{among, arrived, Initial, Slotted}
@@ -31,7 +32,7 @@ use Rattle.ideal.specs.Inhale.{inhale-is, inhale-fit}
 use Rattle.ideal.specs.Exhale.{exhale-fit}
 use Rattle.ideal.specs.Meets.{fit-single, fresh-meets, inhale-meets, transfer-meets, exhale-meets}
 use Rattle.ideal.specs.Only.{Told, fit-told}
-use Rattle.ideal.specs.Refusals.{NoneHolds, fresh-done, slot-done}
+use Rattle.ideal.specs.Refusals.{refuses, sameAnswer, holdsFor, passed, is-done, done-both}
 
 -- What is accepted -------------------------------------------------------------------------------
 
@@ -41,21 +42,7 @@ inside x most h =
     let b = neither (eqb x 0) (ltb most x) h in
     (⊎-elim (λ e. absurd (eqb-false x 0 (b .0) e)) (λ l. l) (eq-zero-or-pos x), ltb-false most x (b .1))
 
-pub done→ : (a : Answer) → So (isDone a) → numberOf a ≡ 0
-unfolding isDone
-done→ a h = eqb-true (numberOf a) 0 h
-
-pub done-is : (a : Answer) → So (isDone a) → a ≡ Done
-unfolding isDone
-done-is Done h = refl
-done-is BadPorts h = absurd (false≢true h)
-done-is BadSpeedup h = absurd (false≢true h)
-done-is BadRecords h = absurd (false≢true h)
-done-is Unfit h = absurd (false≢true h)
-done-is BadLists h = absurd (false≢true h)
-done-is NoSuchOutput h = absurd (false≢true h)
-done-is ClockSpent h = absurd (false≢true h)
-done-is NoRoom h = absurd (false≢true h)
+-- What each group of rows says where it is passed
 
 pub record SizesFit (w : Switch) (table : List ℕ) : Type 0 where
   pub ports : (1 ≤ w .ports) × (w .ports ≤ mostPorts)
@@ -63,62 +50,111 @@ pub record SizesFit (w : Switch) (table : List ℕ) : Type 0 where
   pub whole : So (isWhole table)
   pub size : (1 ≤ records table) × (records table ≤ mostRecords)
 
-sizes : (w : Switch) (table : List ℕ) → No (outside (w .ports) mostPorts) → No (outside (w .speedup) mostSpeedup) → No (not (isWhole table) || outside (records table) mostRecords) → SizesFit w table
-sizes w table a b c =
-    let d = neither (not (isWhole table)) (outside (records table) mostRecords) c in
-    record { ports = inside (w .ports) mostPorts a; speedup = inside (w .speedup) mostSpeedup b; whole = not-false (isWhole table) (d .0); size = inside (records table) mostRecords (d .1) }
+pub record ListsFit (w : Switch) (l : Lists) : Type 0 where
+  pub arrivals : length (l .arrivals) ≡ w .ports * arrivalWidth
+  pub matches : length (l .matches) ≡ w .speedup * w .ports
+  pub exhaled : length (l .exhaled) ≡ w .ports * exhaledWidth
 
-pub fresh-sizes : (w : Switch) (table : List ℕ) → So (isDone (freshAnswer w table)) → SizesFit w table
-unfolding NoneHolds
-fresh-sizes w table h = let g = fresh-done w table .0 (done→ _ h) in sizes w table (g 0 (omega arith)) (g 1 (omega arith)) (g 2 (omega arith))
+-- each arrival is for an output that there is
+abbrev pub Known : Switch → List ℕ → Type 0
+Known w arrivals = (i : ℕ) → i < w .ports → firstWord arrivals i ≤ w .ports
 
-pub record Accepted (w : Switch) (table arrivals matches exhaled : List ℕ) : Type 0 where
+module _ (w : Switch) (table : List ℕ) where
+  pub sizes-passed : So (isDone (firstOf (sizeChecks w table))) → SizesFit w table
+  unfolding refuses isDone holdsFor sameAnswer
+  sizes-passed h =
+      let g = passed (sizeChecks w table) refl h in
+      let d = neither (not (isWhole table)) (outside (records table) mostRecords) (g BadRecords) in
+      record {
+        ports = inside (w .ports) mostPorts (g BadPorts);
+        speedup = inside (w .speedup) mostSpeedup (g BadSpeedup);
+        whole = not-false (isWhole table) (d .0);
+        size = inside (records table) mostRecords (d .1);
+      }
+
+  pub fresh-sizes : So (isDone (freshAnswer w table)) → SizesFit w table
+  unfolding freshAnswer
+  fresh-sizes h = sizes-passed h
+
+  pub table-passed : So (isDone (firstOf (tableChecks w table))) → Fit (w .ports) (w .next) (cellsOf table)
+  unfolding refuses isDone holdsFor sameAnswer
+  table-passed h = fit→ (w .ports) (w .next) (cellsOf table) (not-false _ (passed (tableChecks w table) refl h Unfit))
+
+  pub room-passed : (arrivals : List ℕ) → So (isDone (firstOf (roomChecks w table arrivals))) → live (cellsOf table) + arriving (w .ports) arrivals ≤ length (cellsOf table)
+  unfolding refuses isDone holdsFor sameAnswer
+  room-passed arrivals h = rw (length-cellsOf table) (ltb-false (records table) _ (passed (roomChecks w table arrivals) refl h NoRoom))
+
+module _ (w : Switch) where
+  pub lists-passed : (l : Lists) → So (isDone (firstOf (listChecks w l))) → ListsFit w l
+  unfolding refuses isDone holdsFor sameAnswer lengthsFit
+  lists-passed l h =
+      let x = both _ _ (not-false (lengthsFit w l) (passed (listChecks w l) refl h BadLists)) in
+      let y = both _ _ (x .0) in
+      record { arrivals = eqb-true _ _ (y .0); matches = eqb-true _ _ (y .1); exhaled = eqb-true _ _ (x .1) }
+
+  pub arrivals-passed : (arrivals : List ℕ) → So (isDone (firstOf (arrivalChecks w arrivals))) → Known w arrivals
+  unfolding refuses isDone holdsFor sameAnswer
+  arrivals-passed arrivals h i m =
+      let n : No (any (λ i. ltb (w .ports) (firstWord arrivals i)) (w .ports)) = passed (arrivalChecks w arrivals) refl h NoSuchOutput in
+      ltb-false (w .ports) (firstWord arrivals i) (to-no (λ x. none→ (λ i. ltb (w .ports) (firstWord arrivals i)) (w .ports) n i m x))
+
+  pub clock-passed : So (isDone (firstOf (clockChecks w))) → w .next .0 ≡ lastSlot → ⊥
+  unfolding refuses isDone holdsFor sameAnswer
+  clock-passed h = eqb-false (w .next .0) lastSlot (passed (clockChecks w) refl h ClockSpent)
+
+-- An accepted slot passed every group
+pub record Accepted (w : Switch) (table : List ℕ) (l : Lists) : Type 0 where
   pub sizes : SizesFit w table
   pub fits : Fit (w .ports) (w .next) (cellsOf table)
-  pub arrivals-long : length arrivals ≡ w .ports * arrivalWidth
-  pub matches-long : length matches ≡ w .speedup * w .ports
-  pub exhaled-long : length exhaled ≡ w .ports * exhaledWidth
-  pub known : (i : ℕ) → i < w .ports → firstWord arrivals i ≤ w .ports
+  pub lists : ListsFit w l
+  pub known : Known w (l .arrivals)
   pub clock : w .next .0 ≡ lastSlot → ⊥
-  pub room : live (cellsOf table) + arriving (w .ports) arrivals ≤ length (cellsOf table)
+  pub room : live (cellsOf table) + arriving (w .ports) (l .arrivals) ≤ length (cellsOf table)
 
-module _ (w : Switch) (table arrivals matches exhaled : List ℕ) where
-  pub lengths→ : So (lengthsFit w arrivals matches exhaled) → (length arrivals ≡ w .ports * arrivalWidth) × (length matches ≡ w .speedup * w .ports) × (length exhaled ≡ w .ports * exhaledWidth)
-  unfolding lengthsFit
-  lengths→ h = let x = both _ _ h in let y = both _ _ (x .0) in (eqb-true _ _ (y .0), eqb-true _ _ (y .1), eqb-true _ _ (x .1))
-
-  pub accepted→ : So (isDone (slotAnswer w table arrivals matches exhaled)) → Accepted w table arrivals matches exhaled
-  unfolding NoneHolds
+module _ (w : Switch) (table : List ℕ) (l : Lists) where
+  pub accepted→ : So (isDone (slotAnswer w table l)) → Accepted w table l
+  unfolding slotAnswer refuses isDone
   accepted→ h =
-      let g = slot-done w table arrivals matches exhaled .0 (done→ _ h) in
-      let l = lengths→ (not-false _ (g 4 (omega arith))) in
+      let s = done-both (sizeChecks w table) _ refl h in
+      let t = done-both (tableChecks w table) _ refl (s .1) in
+      let m = done-both (listChecks w l) _ refl (t .1) in
+      let a = done-both (arrivalChecks w (l .arrivals)) _ refl (m .1) in
+      let c = done-both (clockChecks w) _ refl (a .1) in
       record {
-        sizes = sizes w table (g 0 (omega arith)) (g 1 (omega arith)) (g 2 (omega arith));
-        fits = fit→ (w .ports) (w .next) (cellsOf table) (not-false _ (g 3 (omega arith)));
-        arrivals-long = l .0;
-        matches-long = l .1;
-        exhaled-long = l .2;
-        known = λ i m. ⊎-elim (λ x. absurd (none→ (λ i. ltb (w .ports) (firstWord arrivals i)) (w .ports) (g 5 (omega arith)) i m x)) (λ x. ltb-false (w .ports) (firstWord arrivals i) x) (passes (ltb (w .ports) (firstWord arrivals i)));
-        clock = eqb-false (w .next .0) lastSlot (g 6 (omega arith));
-        room = rw (length-cellsOf table) (ltb-false (records table) _ (g 7 (omega arith)));
+        sizes = sizes-passed w table (s .0);
+        fits = table-passed w table (t .0);
+        lists = lists-passed w l (m .0);
+        known = arrivals-passed w (l .arrivals) (a .0);
+        clock = clock-passed w (c .0);
+        room = room-passed w table (l .arrivals) (c .1);
       }
 
   -- an accepted slot is the slot of the rules; a refused one leaves all as found
-  pub slot-accepted : So (isDone (slotAnswer w table arrivals matches exhaled)) → slot w table arrivals matches exhaled ≡ slotRuns w table arrivals
+  pub slot-accepted : So (isDone (slotAnswer w table l)) → slot w table l ≡ slotRuns w table (l .arrivals)
   unfolding slot
-  slot-accepted h = cond-true _ (slotRuns w table arrivals) (slotRefused (slotAnswer w table arrivals matches exhaled) w table matches exhaled) h
+  slot-accepted h = cond-true _ (slotRuns w table (l .arrivals)) (slotRefused (slotAnswer w table l) w table l) h
 
-  pub slot-refused : No (isDone (slotAnswer w table arrivals matches exhaled)) → slot w table arrivals matches exhaled ≡ slotRefused (slotAnswer w table arrivals matches exhaled) w table matches exhaled
+  pub slot-refused : No (isDone (slotAnswer w table l)) → slot w table l ≡ slotRefused (slotAnswer w table l) w table l
   unfolding slot
-  slot-refused h = cond-false _ (slotRuns w table arrivals) (slotRefused (slotAnswer w table arrivals matches exhaled) w table matches exhaled) h
+  slot-refused h = cond-false _ (slotRuns w table (l .arrivals)) (slotRefused (slotAnswer w table l) w table l) h
 
-pub fresh-accepted : (w : Switch) (table : List ℕ) → So (isDone (freshAnswer w table)) → freshStart w table ≡ startsFresh w table
-unfolding freshStart
-fresh-accepted w table h = cond-true _ (startsFresh w table) (startRefused (freshAnswer w table) w table) h
+  -- and where nothing is refused the answer is done itself
+  pub slot-is-done : {a : Answer} → a ≡ slotAnswer w table l → So (isDone a) → a ≡ Done
+  unfolding slotAnswer refuses isDone
+  slot-is-done = is-done (slotChecks w table l) refl
 
-pub fresh-refused : (w : Switch) (table : List ℕ) → No (isDone (freshAnswer w table)) → freshStart w table ≡ startRefused (freshAnswer w table) w table
-unfolding freshStart
-fresh-refused w table h = cond-false _ (startsFresh w table) (startRefused (freshAnswer w table) w table) h
+module _ (w : Switch) (table : List ℕ) where
+  pub fresh-accepted : So (isDone (freshAnswer w table)) → freshStart w table ≡ startsFresh w table
+  unfolding freshStart
+  fresh-accepted h = cond-true _ (startsFresh w table) (startRefused (freshAnswer w table) w table) h
+
+  pub fresh-refused : No (isDone (freshAnswer w table)) → freshStart w table ≡ startRefused (freshAnswer w table) w table
+  unfolding freshStart
+  fresh-refused h = cond-false _ (startsFresh w table) (startRefused (freshAnswer w table) w table) h
+
+  pub fresh-is-done : {a : Answer} → a ≡ freshAnswer w table → So (isDone a) → a ≡ Done
+  unfolding freshAnswer refuses isDone
+  fresh-is-done = is-done (freshChecks w table) refl
 
 -- A fresh start leaves a fit table, with no cell in it
 pub fresh-fit : (w : Switch) (table : List ℕ) → Fit (w .ports) (slotOf 0) (cellsOf (startsFresh w table .table))
@@ -133,7 +169,10 @@ fresh-initial w table = fresh-meets (cellsOf (startsFresh w table .table)) (λ k
 
 -- A slot -----------------------------------------------------------------------------------------
 
-module _ {w : Switch} {table arrivals matches exhaled : List ℕ} (a : Accepted w table arrivals matches exhaled) where
+module _ {w : Switch} {table : List ℕ} {l : Lists} (a : Accepted w table l) where
+  abbrev arrivals : List ℕ
+  arrivals = l .arrivals
+
   -- the tables at the end of the inhale, after each phase, and at the end
   abbrev pub full : List Cell
   full = entered w arrivals (cellsOf table)
@@ -164,7 +203,7 @@ module _ {w : Switch} {table arrivals matches exhaled : List ℕ} (a : Accepted 
       record {
         inhales = inhale-meets (w .ports) (w .next) arrivals (cellsOf table) full (inhale-is (w .ports) (w .next) arrivals (cellsOf table) (a .room));
         single = λ j k hj hk wj wk s. fit-single entered-fit (nth full k) j k hj hk (live→ _ wj) (live→ _ wk) s (same-refl (nth full k));
-        transfers = λ j l. rw (phases-suc (w .ports) (readings full) full j) (transfer-meets (after-fit j) (match-is (after-fit j) (readings full)));
+        transfers = λ j m. rw (phases-suc (w .ports) (readings full) full j) (transfer-meets (after-fit j) (match-is (after-fit j) (readings full)));
         exhales = rw slot-cells (exhale-meets (after-fit (w .speedup)));
       }
 

@@ -1,146 +1,220 @@
--- "Given exactly when": a number is given when its row holds and no row above it does, and 0 when none holds. For any rows with numbers of
--- their own, so for those of a fresh start and of a slot.
+-- "Given exactly when": a number is given when its row holds and no row above it does, and 0 when none holds. A row is looked up by its answer and
+-- never by its position. For any rows with answers of their own, so for those of a fresh start and of a slot, and for each group of them.
 -- Assumes nothing.
 use mathlib.Core.Path.{_≡_, refl, sym, ap, _∙_}
 use mathlib.Core.Logic.{_⊎_, inl, inr, ⊎-elim, _↔_}
-use mathlib.Core.Bool.{Bool, So, true, false, not, cond, _&&_}
+use mathlib.Core.Bool.{Bool, So, true, false, not, cond, _&&_, _||_, false≢true}
 use mathlib.Core.List.{List, [], _∷_, _++_}
-use Prim.Native.Nat.{ℕ, zero, suc, _<_}
-use native.Mathlib.Omega.{arith}
-use lib.Dec.{eqb, ltb}
-use lib.ListN.{length, getD}
-use borrow.Author.Tests.{eq-eqb, ltb-true, ltb-false}
-use Rattle.laws.specs.Tests.{No, passes, refuted, both, denied, cond-true, cond-false}
-use Rattle.laws.specs.Walk.{over}
-use Rattle.laws.specs.Count.{every, every→}
+use Prim.Native.Nat.{ℕ}
+use lib.Dec.{eqb}
+use borrow.Author.Tests.{eqb-true, eqb-false, eq-eqb}
+use Rattle.laws.specs.Tests.{No, passes, refuted, both, either, neither, on-left, on-right, denied, cond-true, cond-false}
 use Rattle.rules.specs.declared.Switch.{Switch}
+use Rattle.rules.specs.declared.Answer.{Answer}
 use Rattle.rules.specs.declared.Answer.the-variants.{Done}
-use Rattle.rules.specs.Answers.{numberOf, isDone, Check, row, firstOf, sizeChecks, slotChecks, freshAnswer, slotAnswer}
+use Rattle.rules.specs.Answers.{Lists, numberOf, isDone, Check, firstOf, freshChecks, slotChecks, freshAnswer, slotAnswer}
 
-abbrev pub rowAt : List Check → ℕ → Check
-rowAt cs k = getD cs k (row false Done)
+-- Rows by their answers --------------------------------------------------------------------------
 
--- row k is the first that holds
-unfoldable pub First : List Check → ℕ → Type 0
-First cs k = (k < length cs) × So (rowAt cs k .holds) × ((j : ℕ) → j < k → No (rowAt cs j .holds))
+unfoldable pub sameAnswer : Answer → Answer → Bool
+sameAnswer a b = eqb (numberOf a) (numberOf b)
 
-unfoldable pub NoneHolds : List Check → Type 0
-NoneHolds cs = (j : ℕ) → j < length cs → No (rowAt cs j .holds)
+-- whether there is a row with answer a, whether it holds, and the rows above it
+unfoldable pub hasRow : Answer → List Check → Bool
+hasRow a [] = false
+hasRow a (c ∷ cs) = sameAnswer a (c .answer) || hasRow a cs
 
--- a first row holds and is the answer, or none holds and it is done
-Settled : List Check → Type 0
-Settled cs = ((k : ℕ) × First cs k × (firstOf cs ≡ rowAt cs k .answer)) ⊎ (NoneHolds cs × (firstOf cs ≡ Done))
+unfoldable pub holdsFor : Answer → List Check → Bool
+holdsFor a [] = false
+holdsFor a (c ∷ cs) = cond (sameAnswer a (c .answer)) (c .holds) (holdsFor a cs)
 
-settled : (cs : List Check) → Settled cs
-unfolding Settled First NoneHolds firstOf
-settled [] = inr (λ j l. absurd (omega arith), refl)
-settled (c ∷ cs) = ⊎-elim here (λ x. later x (settled cs)) (passes (c .holds))
-  where
-    here : So (c .holds) → Settled (c ∷ cs)
-    here x = inl (0, (omega arith, x, λ j l. absurd (omega arith)), cond-true (c .holds) (c .answer) (firstOf cs) x)
+unfoldable pub above : Answer → List Check → List Check
+above a [] = []
+above a (c ∷ cs) = cond (sameAnswer a (c .answer)) [] (c ∷ above a cs)
 
-    later : No (c .holds) → Settled cs → Settled (c ∷ cs)
-    later x (inl k) = inl (suc (k .0), (omega (arith, k .1 .0), k .1 .1, above), cond-false (c .holds) (c .answer) (firstOf cs) x ∙ k .2)
-      where
-        above : (j : ℕ) → j < suc (k .0) → No (rowAt (c ∷ cs) j .holds)
-        above zero l = x
-        above (suc j) l = k .1 .2 j (omega arith)
-    later x (inr h) = inr (none, cond-false (c .holds) (c .answer) (firstOf cs) x ∙ h .1)
-      where
-        none : (j : ℕ) → j < suc (length cs) → No (rowAt (c ∷ cs) j .holds)
-        none zero l = x
-        none (suc j) l = h .0 j (omega arith)
+unfoldable pub anyHolds : List Check → Bool
+anyHolds [] = false
+anyHolds (c ∷ cs) = c .holds || anyHolds cs
 
--- each row has a number of its own, and not 0: a test that computes, since the rows' numbers do
-unfoldable pub ownNumbers : List Check → Bool
-ownNumbers cs = every (λ k. not (eqb (numberOf (rowAt cs k .answer)) 0) && every (λ j. not (eqb (numberOf (rowAt cs j .answer)) (numberOf (rowAt cs k .answer)))) k) (length cs)
-
-module _ (cs : List Check) (own : So (ownNumbers cs)) where
-  nonzero : (k : ℕ) → k < length cs → numberOf (rowAt cs k .answer) ≡ 0 → ⊥
-  unfolding ownNumbers
-  nonzero k l e = refuted (eq-eqb (numberOf (rowAt cs k .answer)) 0 e) (denied _ (both (not (eqb (numberOf (rowAt cs k .answer)) 0)) _ (every→ _ (length cs) own k l) .0))
-
-  unlike : (j k : ℕ) → j < k → k < length cs → numberOf (rowAt cs j .answer) ≡ numberOf (rowAt cs k .answer) → ⊥
-  unfolding ownNumbers
-  unlike j k i l e = refuted (eq-eqb (numberOf (rowAt cs j .answer)) (numberOf (rowAt cs k .answer)) e) (denied _ (every→ _ k (both (not (eqb (numberOf (rowAt cs k .answer)) 0)) _ (every→ _ (length cs) own k l) .1) j i))
-
-  one-row : (j k : ℕ) → j < length cs → k < length cs → numberOf (rowAt cs j .answer) ≡ numberOf (rowAt cs k .answer) → j ≡ k
-  one-row j k hj hk e =
-      ⊎-elim (λ x. absurd (unlike j k (ltb-true j k x) hk e))
-      (λ x. ⊎-elim (λ y. absurd (unlike k j (ltb-true k j y) hj (sym e))) (λ y. omega (arith, ltb-false j k x, ltb-false k j y)) (passes (ltb k j)))
-      (passes (ltb j k))
-
-  -- the number of row k is given exactly when that row holds and none above it does
-  pub given : (k : ℕ) → k < length cs → (numberOf (firstOf cs) ≡ numberOf (rowAt cs k .answer)) ↔ First cs k
-  unfolding Settled First NoneHolds
-  given k l = (to (settled cs), from (settled cs))
-    where
-      to : Settled cs → numberOf (firstOf cs) ≡ numberOf (rowAt cs k .answer) → First cs k
-      to (inl j) e = let q : j .0 ≡ k = one-row (j .0) k (j .1 .0) l (ap numberOf (sym (j .2)) ∙ e) in rw q at (j .1)
-      to (inr h) e = absurd (nonzero k l (sym e ∙ ap numberOf (h .1)))
-
-      from : Settled cs → First cs k → numberOf (firstOf cs) ≡ numberOf (rowAt cs k .answer)
-      from (inr h) f = absurd (refuted (f .1) (h .0 k l))
-      from (inl j) f = go (passes (ltb (j .0) k)) (passes (ltb k (j .0)))
-        where
-          go : So (ltb (j .0) k) ⊎ No (ltb (j .0) k) → So (ltb k (j .0)) ⊎ No (ltb k (j .0)) → numberOf (firstOf cs) ≡ numberOf (rowAt cs k .answer)
-          go (inl x) y = absurd (refuted (j .1 .1) (f .2 (j .0) (ltb-true (j .0) k x)))
-          go (inr x) (inl y) = absurd (refuted (f .1) (j .1 .2 k (ltb-true k (j .0) y)))
-          go (inr x) (inr y) = let q : j .0 ≡ k = omega (arith, ltb-false (j .0) k x, ltb-false k (j .0) y) in ap numberOf (j .2) ∙ ap (λ (i : ℕ). numberOf (rowAt cs i .answer)) q
-
-  -- 0 is given exactly when no row holds
-  pub given-done : (numberOf (firstOf cs) ≡ 0) ↔ NoneHolds cs
-  unfolding Settled First NoneHolds
-  given-done = (to (settled cs), from (settled cs))
-    where
-      to : Settled cs → numberOf (firstOf cs) ≡ 0 → NoneHolds cs
-      to (inl j) e = absurd (nonzero (j .0) (j .1 .0) (ap numberOf (sym (j .2)) ∙ e))
-      to (inr h) e = h .0
-
-      from : Settled cs → NoneHolds cs → numberOf (firstOf cs) ≡ 0
-      from (inl j) h = absurd (refuted (j .1 .1) (h (j .0) (j .1 .0)))
-      from (inr h) g = ap numberOf (h .1)
-
--- One list of rows after another ------------------------------------------------------------------
-
--- every row answers with a refusal
+-- every row answers with a refusal; and with one of its own. Tests that compute, since the rows' numbers do.
 unfoldable pub refuses : List Check → Bool
-refuses cs = every (λ k. not (isDone (rowAt cs k .answer))) (length cs)
+refuses [] = true
+refuses (c ∷ cs) = not (isDone (c .answer)) && refuses cs
 
-first-append′ : (cs ds : List Check) → ((k : ℕ) → k < length cs → No (isDone (rowAt cs k .answer))) → firstOf (cs ++ ds) ≡ cond (isDone (firstOf cs)) (firstOf ds) (firstOf cs)
-unfolding firstOf isDone
-first-append′ [] ds h = refl
-first-append′ (c ∷ cs) ds h = go (c .holds) refl (first-append′ cs ds (λ k l. h (suc k) (omega arith)))
-  where
-    go : (b : Bool) → c .holds ≡ b → firstOf (cs ++ ds) ≡ cond (isDone (firstOf cs)) (firstOf ds) (firstOf cs)
-        → cond b (c .answer) (firstOf (cs ++ ds)) ≡ cond (isDone (cond b (c .answer) (firstOf cs))) (firstOf ds) (cond b (c .answer) (firstOf cs))
-    go true e r = sym (cond-false (isDone (c .answer)) (firstOf ds) (c .answer) (h 0 (omega arith)))
-    go false e r = r
+unfoldable pub ownAnswers : List Check → Bool
+ownAnswers [] = true
+ownAnswers (c ∷ cs) = not (hasRow (c .answer) cs) && ownAnswers cs
+
+-- What is given ----------------------------------------------------------------------------------
+
+-- a row's answer is given when the row holds and none above it does
+pub record Given (a : Answer) (cs : List Check) : Type 0 where
+  pub holds : So (holdsFor a cs)
+  pub none-above : No (anyHolds (above a cs))
+
+module _ (c : Check) (cs : List Check) where
+  first-holds : So (c .holds) → firstOf (c ∷ cs) ≡ c .answer
+  unfolding firstOf
+  first-holds h = cond-true (c .holds) (c .answer) (firstOf cs) h
+
+  first-later : No (c .holds) → firstOf (c ∷ cs) ≡ firstOf cs
+  unfolding firstOf
+  first-later h = cond-false (c .holds) (c .answer) (firstOf cs) h
+
+  refuses-here : So (refuses (c ∷ cs)) → No (isDone (c .answer)) × So (refuses cs)
+  unfolding refuses
+  refuses-here r = let b = both (not (isDone (c .answer))) (refuses cs) r in (denied _ (b .0), b .1)
+
+-- what is given is the answer of a row, or done
+of-a-row : (cs : List Check) (a : Answer) → So (sameAnswer a (firstOf cs)) → So (hasRow a cs) ⊎ So (isDone a)
+unfolding hasRow sameAnswer isDone firstOf
+of-a-row [] a e = inr e
+of-a-row (c ∷ cs) a e =
+    ⊎-elim
+    (λ h. inl (on-left (sameAnswer a (c .answer)) (hasRow a cs) (ap (sameAnswer a) (sym (first-holds c cs h)) ∙ e)))
+    (λ h. ⊎-elim (λ x. inl (on-right (sameAnswer a (c .answer)) (hasRow a cs) x)) (λ x. inr x) (of-a-row cs a (ap (sameAnswer a) (sym (first-later c cs h)) ∙ e)))
+    (passes (c .holds))
+
+module _ (a : Answer) (c : Check) (cs : List Check) where
+  -- the first row is that of a
+  module _ (s : So (sameAnswer a (c .answer))) where
+    at-first : holdsFor a (c ∷ cs) ≡ c .holds
+    unfolding holdsFor
+    at-first = cond-true _ (c .holds) (holdsFor a cs) s
+
+    first→ : No (isDone a) → No (hasRow a cs) → So (sameAnswer a (firstOf (c ∷ cs))) → Given a (c ∷ cs)
+    unfolding above anyHolds
+    first→ d own e = ⊎-elim here later (passes (c .holds))
+      where
+        here : So (c .holds) → Given a (c ∷ cs)
+        here h = record { holds = at-first ∙ h; none-above = ap anyHolds (cond-true _ [] (c ∷ above a cs) s) }
+
+        later : No (c .holds) → Given a (c ∷ cs)
+        later h = ⊎-elim (λ x. absurd (refuted x own)) (λ x. absurd (refuted x d)) (of-a-row cs a (ap (sameAnswer a) (sym (first-later c cs h)) ∙ e))
+
+    →first : Given a (c ∷ cs) → So (sameAnswer a (firstOf (c ∷ cs)))
+    →first g = ap (sameAnswer a) (first-holds c cs (sym at-first ∙ g .holds)) ∙ s
+
+  -- it is a row further down
+  module _ (s : No (sameAnswer a (c .answer))) where
+    further : holdsFor a (c ∷ cs) ≡ holdsFor a cs
+    unfolding holdsFor
+    further = cond-false _ (c .holds) (holdsFor a cs) s
+
+    below-first : anyHolds (above a (c ∷ cs)) ≡ (c .holds || anyHolds (above a cs))
+    unfolding above anyHolds
+    below-first = ap anyHolds (cond-false _ [] (c ∷ above a cs) s)
+
+    later→ : (So (sameAnswer a (firstOf cs)) → Given a cs) → So (sameAnswer a (firstOf (c ∷ cs))) → Given a (c ∷ cs)
+    later→ f e = ⊎-elim here later (passes (c .holds))
+      where
+        here : So (c .holds) → Given a (c ∷ cs)
+        here h = absurd (refuted (ap (sameAnswer a) (sym (first-holds c cs h)) ∙ e) s)
+
+        later : No (c .holds) → Given a (c ∷ cs)
+        later h =
+            let g = f (ap (sameAnswer a) (sym (first-later c cs h)) ∙ e) in
+            record { holds = further ∙ g .holds; none-above = below-first ∙ rw h (g .none-above) }
+
+    →later : (Given a cs → So (sameAnswer a (firstOf cs))) → Given a (c ∷ cs) → So (sameAnswer a (firstOf (c ∷ cs)))
+    →later f g =
+        let n = neither (c .holds) (anyHolds (above a cs)) (sym below-first ∙ g .none-above) in
+        ap (sameAnswer a) (first-later c cs (n .0)) ∙ f (record { holds = sym further ∙ g .holds; none-above = n .1 })
+
+-- answers with the same number have the same row
+same-row : (a b : Answer) → So (sameAnswer a b) → (cs : List Check) → hasRow a cs ≡ hasRow b cs
+unfolding hasRow sameAnswer
+same-row a b s [] = refl
+same-row a b s (c ∷ cs) = let q : numberOf a ≡ numberOf b = eqb-true _ _ s in rw (q, same-row a b s cs)
+
+-- the answer of a row is given exactly when that row holds and none above it does
+given→ : (cs : List Check) → So (ownAnswers cs) → (a : Answer) → No (isDone a) → So (sameAnswer a (firstOf cs)) → Given a cs
+unfolding ownAnswers firstOf sameAnswer isDone
+given→ [] own a d e = absurd (refuted e d)
+given→ (c ∷ cs) own a d e =
+    let b = both (not (hasRow (c .answer) cs)) (ownAnswers cs) own in
+    ⊎-elim (λ s. first→ a c cs s d (same-row a (c .answer) s cs ∙ denied _ (b .0)) e) (λ s. later→ a c cs s (given→ cs (b .1) a d) e) (passes (sameAnswer a (c .answer)))
+
+→given : (cs : List Check) (a : Answer) → Given a cs → So (sameAnswer a (firstOf cs))
+unfolding holdsFor
+→given [] a g = absurd (false≢true (g .holds))
+→given (c ∷ cs) a g = ⊎-elim (λ s. →first a c cs s g) (λ s. →later a c cs s (→given cs a) g) (passes (sameAnswer a (c .answer)))
+
+pub given : (cs : List Check) → So (ownAnswers cs) → (a : Answer) → No (isDone a) → (numberOf (firstOf cs) ≡ numberOf a) ↔ Given a cs
+unfolding sameAnswer
+given cs own a d = (λ e. given→ cs own a d (eq-eqb _ _ (sym e)), λ g. sym (eqb-true _ _ (→given cs a g)))
+
+-- 0 is given exactly when no row holds
+done→ : (cs : List Check) → So (refuses cs) → So (isDone (firstOf cs)) → No (anyHolds cs)
+unfolding anyHolds
+done→ [] r d = refl
+done→ (c ∷ cs) r d =
+    let q = refuses-here c cs r in
+    ⊎-elim (λ h. absurd (refuted (ap isDone (sym (first-holds c cs h)) ∙ d) (q .0))) (λ h. rw h (done→ cs (q .1) (ap isDone (sym (first-later c cs h)) ∙ d))) (passes (c .holds))
+
+-- and then it is done itself
+pub none-holds : (cs : List Check) → No (anyHolds cs) → firstOf cs ≡ Done
+unfolding anyHolds firstOf
+none-holds [] h = refl
+none-holds (c ∷ cs) h = let n = neither (c .holds) (anyHolds cs) h in cond-false (c .holds) (c .answer) (firstOf cs) (n .0) ∙ none-holds cs (n .1)
+
+pub is-done : {a : Answer} (cs : List Check) → So (refuses cs) → a ≡ firstOf cs → So (isDone a) → a ≡ Done
+is-done cs r e d = e ∙ none-holds cs (done→ cs r (ap isDone (sym e) ∙ d))
+
+pub given-done : (cs : List Check) → So (refuses cs) → (numberOf (firstOf cs) ≡ 0) ↔ No (anyHolds cs)
+unfolding isDone
+given-done cs r = (λ e. done→ cs r (eq-eqb _ _ e), λ h. ap numberOf (none-holds cs h))
+
+-- where it is done, no row holds, whichever answer it is looked up by
+not-held : (cs : List Check) → No (anyHolds cs) → (a : Answer) → No (holdsFor a cs)
+unfolding anyHolds holdsFor
+not-held [] h a = refl
+not-held (c ∷ cs) h a =
+    let n = neither (c .holds) (anyHolds cs) h in
+    ⊎-elim (λ s. cond-true _ (c .holds) (holdsFor a cs) s ∙ n .0) (λ s. cond-false _ (c .holds) (holdsFor a cs) s ∙ not-held cs (n .1) a) (passes (sameAnswer a (c .answer)))
+
+pub passed : (cs : List Check) → So (refuses cs) → So (isDone (firstOf cs)) → (a : Answer) → No (holdsFor a cs)
+passed cs r d = not-held cs (done→ cs r d)
+
+-- One group of rows after another ------------------------------------------------------------------
 
 -- the later rows are looked at only where none of the first holds
 pub first-append : (cs ds : List Check) → So (refuses cs) → firstOf (cs ++ ds) ≡ cond (isDone (firstOf cs)) (firstOf ds) (firstOf cs)
-unfolding refuses
-first-append cs ds h = first-append′ cs ds (λ k l. denied _ (every→ (λ k. not (isDone (rowAt cs k .answer))) (length cs) h k l))
+unfolding firstOf isDone
+first-append [] ds r = refl
+first-append (c ∷ cs) ds r = go (c .holds) (first-append cs ds (refuses-here c cs r .1))
+  where
+    go : (b : Bool) → firstOf (cs ++ ds) ≡ cond (isDone (firstOf cs)) (firstOf ds) (firstOf cs)
+        → cond b (c .answer) (firstOf (cs ++ ds)) ≡ cond (isDone (cond b (c .answer) (firstOf cs))) (firstOf ds) (cond b (c .answer) (firstOf cs))
+    go true e = sym (cond-false (isDone (c .answer)) (firstOf ds) (c .answer) (refuses-here c cs r .0))
+    go false e = e
+
+module _ (cs ds : List Check) (r : So (refuses cs)) where
+  pub stops : No (isDone (firstOf cs)) → firstOf (cs ++ ds) ≡ firstOf cs
+  stops h = first-append cs ds r ∙ cond-false _ (firstOf ds) (firstOf cs) h
+
+  pub goes-on : So (isDone (firstOf cs)) → firstOf (cs ++ ds) ≡ firstOf ds
+  goes-on h = first-append cs ds r ∙ cond-true _ (firstOf ds) (firstOf cs) h
+
+  -- both groups are passed where all rows are
+  pub done-both : So (isDone (firstOf (cs ++ ds))) → So (isDone (firstOf cs)) × So (isDone (firstOf ds))
+  done-both h = ⊎-elim (λ x. (x, ap isDone (sym (goes-on x)) ∙ h)) (λ x. absurd (refuted (ap isDone (sym (stops x)) ∙ h) x)) (passes (isDone (firstOf cs)))
 
 -- The two calls ----------------------------------------------------------------------------------
 
 module _ (w : Switch) (table : List ℕ) where
-  pub fresh-given : (k : ℕ) → k < 3 → (numberOf (freshAnswer w table) ≡ numberOf (rowAt (sizeChecks w table) k .answer)) ↔ First (sizeChecks w table) k
-  unfolding ownNumbers every over freshAnswer
-  fresh-given k l = given (sizeChecks w table) refl k l
+  pub fresh-given : (a : Answer) → No (isDone a) → (numberOf (freshAnswer w table) ≡ numberOf a) ↔ Given a (freshChecks w table)
+  unfolding ownAnswers hasRow sameAnswer freshAnswer
+  fresh-given = given (freshChecks w table) refl
 
-  pub fresh-done : (numberOf (freshAnswer w table) ≡ 0) ↔ NoneHolds (sizeChecks w table)
-  unfolding ownNumbers every over freshAnswer
-  fresh-done = given-done (sizeChecks w table) refl
+  pub fresh-done : (numberOf (freshAnswer w table) ≡ 0) ↔ No (anyHolds (freshChecks w table))
+  unfolding refuses isDone freshAnswer
+  fresh-done = given-done (freshChecks w table) refl
 
-module _ (w : Switch) (table arrivals matches exhaled : List ℕ) where
-  abbrev pub allChecks : List Check
-  allChecks = sizeChecks w table ++ slotChecks w table arrivals matches exhaled
+  pub slot-given : (l : Lists) (a : Answer) → No (isDone a) → (numberOf (slotAnswer w table l) ≡ numberOf a) ↔ Given a (slotChecks w table l)
+  unfolding ownAnswers hasRow sameAnswer slotAnswer
+  slot-given l = given (slotChecks w table l) refl
 
-  pub slot-given : (k : ℕ) → k < 8 → (numberOf (slotAnswer w table arrivals matches exhaled) ≡ numberOf (rowAt allChecks k .answer)) ↔ First allChecks k
-  unfolding ownNumbers every over slotAnswer
-  slot-given k l = given allChecks refl k l
-
-  pub slot-done : (numberOf (slotAnswer w table arrivals matches exhaled) ≡ 0) ↔ NoneHolds allChecks
-  unfolding ownNumbers every over slotAnswer
-  slot-done = given-done allChecks refl
+  pub slot-done : (l : Lists) → (numberOf (slotAnswer w table l) ≡ 0) ↔ No (anyHolds (slotChecks w table l))
+  unfolding refuses isDone slotAnswer
+  slot-done l = given-done (slotChecks w table l) refl

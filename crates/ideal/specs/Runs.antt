@@ -11,41 +11,41 @@ use lib.ListN.{length, replicate, take, getD}
 use Rattle.laws.specs.Tests.{No, passes, refuted, both, join, denied, cond-false}
 use Rattle.rules.specs.declared.Switch.{Switch}
 use Rattle.rules.specs.declared.Answer.{Answer}
-use Rattle.rules.specs.Answers.{isDone, freshAnswer, slotAnswer}
+use Rattle.rules.specs.Answers.{Lists, isDone, freshAnswer, slotAnswer}
 use Rattle.rules.specs.Calls.{State, Call, starts, slots, restarted, Started, Outcome, slotRuns, Answered, byStart, bySlot, does, run}
 use Rattle.rules.specs.Demands.{isAccepted, restarts, unbroken, callAt, stateAt, Met, Ran, left}
 use Rattle.ideal.specs.Calls.{Accepted, accepted→, slot-accepted, slot-refused, fresh-accepted, fresh-refused}
 
 -- A call -----------------------------------------------------------------------------------------
 
-module _ (x : State) (arrivals matches exhaled : List ℕ) where
+module _ (x : State) (l : Lists) where
   abbrev answer-of : Answer
-  answer-of = slotAnswer (x .numbers) (x .table) arrivals matches exhaled
+  answer-of = slotAnswer (x .numbers) (x .table) l
 
   -- a slot is accepted as its checks say
-  slot-says : isAccepted x (slots arrivals matches exhaled) ≡ isDone answer-of
+  slot-says : isAccepted x (slots l) ≡ isDone answer-of
   unfolding isAccepted does isDone slotRuns
   slot-says =
-      ⊎-elim (λ h. ap (λ (s : Outcome). isDone (s .answer)) (slot-accepted (x .numbers) (x .table) arrivals matches exhaled h) ∙ sym h)
-      (λ h. ap (λ (s : Outcome). isDone (s .answer)) (slot-refused (x .numbers) (x .table) arrivals matches exhaled h))
+      ⊎-elim (λ h. ap (λ (s : Outcome). isDone (s .answer)) (slot-accepted (x .numbers) (x .table) l h) ∙ sym h)
+      (λ h. ap (λ (s : Outcome). isDone (s .answer)) (slot-refused (x .numbers) (x .table) l h))
       (passes (isDone answer-of))
 
-  pub slot-accepts : So (isAccepted x (slots arrivals matches exhaled)) → Accepted (x .numbers) (x .table) arrivals matches exhaled
-  slot-accepts h = accepted→ (x .numbers) (x .table) arrivals matches exhaled (sym slot-says ∙ h)
+  pub slot-accepts : So (isAccepted x (slots l)) → Accepted (x .numbers) (x .table) l
+  slot-accepts h = accepted→ (x .numbers) (x .table) l (sym slot-says ∙ h)
 
-  pub slot-does : So (isAccepted x (slots arrivals matches exhaled)) → does x (slots arrivals matches exhaled) ≡ bySlot (slotRuns (x .numbers) (x .table) arrivals)
+  pub slot-does : So (isAccepted x (slots l)) → does x (slots l) ≡ bySlot (slotRuns (x .numbers) (x .table) (l .arrivals))
   unfolding does
-  slot-does h = ap bySlot (slot-accepted (x .numbers) (x .table) arrivals matches exhaled (sym slot-says ∙ h))
+  slot-does h = ap bySlot (slot-accepted (x .numbers) (x .table) l (sym slot-says ∙ h))
 
-  pub slot-lists : No (isAccepted x (slots arrivals matches exhaled)) → (does x (slots arrivals matches exhaled) .matches ≡ matches) × (does x (slots arrivals matches exhaled) .exhaled ≡ exhaled)
+  pub slot-lists : No (isAccepted x (slots l)) → (does x (slots l) .matches ≡ l .matches) × (does x (slots l) .exhaled ≡ l .exhaled)
   unfolding does
   slot-lists h =
-      let e = ap bySlot (slot-refused (x .numbers) (x .table) arrivals matches exhaled (sym slot-says ∙ h)) in
+      let e = ap bySlot (slot-refused (x .numbers) (x .table) l (sym slot-says ∙ h)) in
       (ap (λ (a : Answered). a .matches) e, ap (λ (a : Answered). a .exhaled) e)
 
-  slot-leaves : No (isAccepted x (slots arrivals matches exhaled)) → does x (slots arrivals matches exhaled) .after ≡ x
+  slot-leaves : No (isAccepted x (slots l)) → does x (slots l) .after ≡ x
   unfolding does
-  slot-leaves h = ap (λ (s : Outcome). bySlot s .after) (slot-refused (x .numbers) (x .table) arrivals matches exhaled (sym slot-says ∙ h))
+  slot-leaves h = ap (λ (s : Outcome). bySlot s .after) (slot-refused (x .numbers) (x .table) l (sym slot-says ∙ h))
 
 module _ (x : State) (w : Switch) where
   start-says : isAccepted x (starts w) ≡ isDone (freshAnswer w (x .table))
@@ -69,16 +69,16 @@ module _ (x : State) (w : Switch) where
 -- a refused call changes nothing
 pub refused-leaves : (x : State) (c : Call) → No (isAccepted x c) → does x c .after ≡ x
 refused-leaves x (starts w) = start-leaves x w
-refused-leaves x (slots arrivals matches exhaled) = slot-leaves x arrivals matches exhaled
+refused-leaves x (slots l) = slot-leaves x l
 
 -- Runs -------------------------------------------------------------------------------------------
 
 -- every accepted slot keeps P; an accepted fresh start makes it
-abbrev pub Kept : (State → Type 0) → Type 0
-Kept P = (x : State) (arrivals matches exhaled : List ℕ) → So (isAccepted x (slots arrivals matches exhaled)) → P x → P (does x (slots arrivals matches exhaled) .after)
+abbrev pub KeptBySlots : (State → Type 0) → Type 0
+KeptBySlots P = (x : State) (l : Lists) → So (isAccepted x (slots l)) → P x → P (does x (slots l) .after)
 
-abbrev pub Made : (State → Type 0) → Type 0
-Made P = (x : State) (w : Switch) → So (isAccepted x (starts w)) → P (does x (starts w) .after)
+abbrev pub MadeByStarts : (State → Type 0) → Type 0
+MadeByStarts P = (x : State) (w : Switch) → So (isAccepted x (starts w)) → P (does x (starts w) .after)
 
 unbroken-take : (x : State) (calls : List Call) (j : ℕ) → So (unbroken x calls) → So (unbroken x (take j calls))
 unfolding unbroken
@@ -86,7 +86,7 @@ unbroken-take x calls zero u = refl
 unbroken-take x [] (suc j) u = refl
 unbroken-take x (c ∷ cs) (suc j) u = let b = both (not (restarts x c)) _ u in join _ _ (b .0) (unbroken-take (does x c .after) cs j (b .1))
 
-module _ (P : State → Type 0) (kept : Kept P) where
+module _ (P : State → Type 0) (kept : KeptBySlots P) where
   -- one call, of which an accepted fresh start is told apart
   call-keeps : (x : State) (c : Call) → (So (restarts x c) → P (does x c .after)) → P x → P (does x c .after)
   unfolding restarts
@@ -94,7 +94,7 @@ module _ (P : State → Type 0) (kept : Kept P) where
     where
       by : (c : Call) → (So (restarts x c) → P (does x c .after)) → So (isAccepted x c) → P (does x c .after)
       by (starts w) s h = s h
-      by (slots arrivals matches exhaled) s h = kept x arrivals matches exhaled h p
+      by (slots l) s h = kept x l h p
 
   -- through calls of which none is an accepted fresh start
   pub stretch : (x : State) (calls : List Call) → So (unbroken x calls) → P x → P (run x calls)
@@ -107,11 +107,11 @@ module _ (P : State → Type 0) (kept : Kept P) where
   unfolding stateAt
   stretch-at x calls u p j = stretch x (take j calls) (unbroken-take x calls j u) p
 
-  module _ (made : Made P) where
+  module _ (made : MadeByStarts P) where
     restarts-make : (x : State) (c : Call) → So (restarts x c) → P (does x c .after)
     unfolding restarts
     restarts-make x (starts w) h = made x w h
-    restarts-make x (slots arrivals matches exhaled) h = absurd (false≢true h)
+    restarts-make x (slots l) h = absurd (false≢true h)
 
     through : (x : State) (calls : List Call) → P x → P (run x calls)
     unfolding run
@@ -129,7 +129,7 @@ module _ (P : State → Type 0) (kept : Kept P) where
 met-does : (x : State) (c : Call) (a : Answered) → Met x c a → a ≡ does x c
 unfolding does
 met-does x (starts w) a m = m .2 ∙ ap (byStart (x .numbers)) (m .1)
-met-does x (slots arrivals matches exhaled) a m = m .2 ∙ ap bySlot (m .1)
+met-does x (slots l) a m = m .2 ∙ ap bySlot (m .1)
 
 -- so a program's calls leave what the run leaves, and answer what it answers
 pub ran-left : (x : State) (calls : List Call) (l : List Answered) → Ran x calls l → left x l ≡ run x calls

@@ -15,9 +15,9 @@ use Rattle.rules.specs.declared.Slot.{Slot}
 use Rattle.rules.specs.declared.Switch.{Switch}
 use Rattle.rules.specs.declared.Cell.{Cell}
 use Rattle.rules.specs.Cells.{nth, cellsOf, isLive}
-use Rattle.rules.specs.Answers.{arriving, live}
+use Rattle.rules.specs.Answers.{Lists, arriving, live}
 use Rattle.rules.specs.Phases.{moved, phases, isEmitted, exhale, exhaled, readings}
-use Rattle.rules.specs.Calls.{State, Call, starts, slots, entered, transferred, slotRuns, does, run}
+use Rattle.rules.specs.Calls.{Outcome, State, Call, starts, slots, entered, transferred, slotRuns, does, run}
 use Rattle.rules.specs.Demands.{isAccepted, restarts, runsSlot, emits, brings, emissions, since}
 use Rattle.rules.specs.Model.{Match}
 use Rattle.words.specs.Words.{cellsOf-zeros}
@@ -61,17 +61,17 @@ live-exhale n cs =
     side k l x = ⊎-elim (λ y. inr y) (λ y. inl (rw (exhale-kept n cs k l y) x)) (passes (isEmitted n cs k))
 
 -- what arrives is emitted or held
-pub slot-total : {w : Switch} {table arrivals matches exhaled′ : List ℕ} → Accepted w table arrivals matches exhaled′
-    → live (cellsOf (slotRuns w table arrivals .table)) + count (emits (slotRuns w table arrivals .exhaled)) (w .ports) ≡ live (cellsOf table) + arriving (w .ports) arrivals
+pub slot-total : {w : Switch} {table : List ℕ} {l : Lists} → Accepted w table l
+    → let u : Outcome = slotRuns w table (l .arrivals) in live (cellsOf (u .table)) + count (emits (u .exhaled)) (w .ports) ≡ live (cellsOf table) + arriving (w .ports) (l .arrivals)
 unfolding slotRuns transferred entered
-slot-total {w} {table} {arrivals} a =
+slot-total {w} {table} {l} a =
     omega (
       arith,
       ap live (slot-cells a),
       live-exhale (w .ports) (after a (w .speedup)),
       emitted-count (after-fit a (w .speedup)),
       live-phases (entered-fit a) (readings (full a)) (w .speedup),
-      inhale-total (w .ports) (w .next) arrivals (cellsOf table) (a .room),
+      inhale-total (w .ports) (w .next) (l .arrivals) (cellsOf table) (a .room),
     )
 
 -- Calls ------------------------------------------------------------------------------------------
@@ -91,16 +91,16 @@ call-total x (starts w) n m e = ⊎-elim yes′ no′ (passes (isAccepted x (sta
 
     no′ : No (isAccepted x (starts w)) → cond (isAccepted x (starts w)) 0 (n + 0) ≡ cond (isAccepted x (starts w)) 0 (m + 0) + live (cellsOf (does x (starts w) .after .table))
     no′ h = rw (h, refused-leaves x (starts w) h) (omega arith)
-call-total x (slots arrivals matches exhaled′) n m e = ⊎-elim yes′ no′ (passes (isAccepted x c))
+call-total x (slots l) n m e = ⊎-elim yes′ no′ (passes (isAccepted x c))
   where
     c : Call
-    c = slots arrivals matches exhaled′
+    c = slots l
 
     Goal : Type 0
-    Goal = n + cond (isAccepted x c) (arriving (x .numbers .ports) arrivals) 0 ≡ m + cond (isAccepted x c) (count (emits (does x c .exhaled)) (x .numbers .ports)) 0 + live (cellsOf (does x c .after .table))
+    Goal = n + cond (isAccepted x c) (arriving (x .numbers .ports) (l .arrivals)) 0 ≡ m + cond (isAccepted x c) (count (emits (does x c .exhaled)) (x .numbers .ports)) 0 + live (cellsOf (does x c .after .table))
 
     yes′ : So (isAccepted x c) → Goal
-    yes′ h = rw (h, slot-does x arrivals matches exhaled′ h) (omega (arith, slot-total (slot-accepts x arrivals matches exhaled′ h)))
+    yes′ h = rw (h, slot-does x l h) (omega (arith, slot-total (slot-accepts x l h)))
 
     no′ : No (isAccepted x c) → Goal
     no′ h = rw (h, refused-leaves x c h) (omega arith)

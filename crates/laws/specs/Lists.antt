@@ -4,13 +4,13 @@ use Prim.Native.Nat.{ℕ, zero, suc, _+_, _*_, _≤_, _<_}
 use mathlib.Core.Path.{_≡_, refl, sym, ap, _∙_}
 use mathlib.Core.Logic.{_⊎_, inl, inr, ⊎-elim}
 use mathlib.Core.Bool.{Bool, true, false, cond}
-use mathlib.Core.List.{List, [], _∷_, _++_}
+use mathlib.Core.List.{List, [], _∷_, _++_, append-nil}
 use native.Mathlib.Omega.{arith}
 use native.Mathlib.Numerals.{add-one}
 use native.Mathlib.Nat.{suc-mul, mul-le-mul-right, add-zero, add-suc, suc-add}
 use lib.Dec.{eqb}
 use lib.ListN.{length, getD, set, take, drop, replicate, length-set, length-append, List·getD-append}
-use lib.Seq.{ext-getD, getD-at, getD-append-add, getD-set-same, getD-set-other, sets, sets-eq, take-at}
+use lib.Seq.{ext-getD, getD-at, getD-append-add, getD-set-same, getD-set-other, sets, sets-eq, take-at, drop-length}
 use borrow.Author.Tests.{eqb-true, eqb-false}
 use Rattle.laws.specs.Tests.{passes}
 use Rattle.laws.specs.Walk.{over, over-zero, over-more, below-suc}
@@ -96,6 +96,12 @@ module _ {A : Type 0} (d : A) where
   sets-inside (a ∷ vs) l i (suc r) h k =
       let e : i + suc r ≡ suc i + r = omega arith in
       rw e (sets-inside vs (set l i a) (suc i) r (rw (length-set l i a) (omega arith)) (omega arith))
+
+-- a run of stores over a whole list
+pub sets-all : {A : Type 0} (l vs : List A) → length l ≡ length vs → sets l 0 vs ≡ vs
+sets-all {A} l vs e =
+    let n : 0 + length vs ≡ length l = omega arith in
+    sets-eq vs l 0 (omega arith) ∙ ap (λ (r : List A). vs ++ r) (ap (λ (k : ℕ). drop k l) n ∙ drop-length l) ∙ append-nil vs
 
 -- a list filled block by block: where its front is f 0, .. , f (n-1), a store of f n makes it one block longer
 module _ (f : ℕ → List ℕ) (w : ℕ) (e : (k : ℕ) → length (f k) ≡ w) where

@@ -4,17 +4,9 @@ use Prim.Native.Nat.{ℕ}
 use Prim.Native.String.{String}
 use mathlib.Core.Path.{_≡_, refl}
 use mathlib.Core.List.{List, flatMap}
-use Rattle.laws.specs.Walk.{over}
-use Rattle.laws.specs.Count.{count, every, any}
-use Rattle.laws.specs.Order.{lower}
-use Rattle.laws.specs.Least.{least}
-use Rattle.laws.specs.Lists.{tabulate, blocks}
 use Rattle.laws.specs.Folds.{fold, each}
 use Rattle.laws.specs.Texts.{bytes}
-use Rattle.rules.specs.Cells.{sameInput, sameOutput, sameSlot, isFree, isWaiting, isReady, isLive, isReadyFor, records, isWhole, cellsOf, wordsOf, isBlank, isSound, sameEntry, isAlone, fit, older, readingFor, before}
-use Rattle.rules.specs.Answers.{isDone, firstWord, tagWord, arrives, arriving, live, lengthsFit, outside, firstOf, freshAnswer, slotAnswer}
-use Rattle.rules.specs.Phases.{lowestFree, enter, inhale, readyCount, readings, conflict, isOpen, firstOpen, none, add, round, matchOf, moved, phase, phases, matchWords, matches, oldestReady, isEmitted, exhale, exhaled}
-use Rattle.rules.specs.Calls.{freshStart, entered, transferred, slotRuns, slot}
+use Rattle.rules.specs.Computing.{Computing}
 use Rattle.text.specs.Lines.{cut, isDigit, push, value, isNumber, firstLine, isOutput, arrival, isSlotLine, slotWords}
 use Rattle.printing.specs.Printed.{digits, decimal, field, headerLine, cellLine, refusedLine, unreadableLine, heldLine}
 use Rattle.program.specs.Program.{linesOf, heldText, endText, cellText, slotText, slotOn, lineText, lineAfter, slotsText, startText, firstText, openingText, programText}
@@ -37,7 +29,7 @@ pub record Examples : Type 0 where
   pub after-last : prints "2 3 2\n0:1 0:2\n- -" ≡ bytes "slot output input entered tag\n0 0 0 0 1\nunreadable\nheld 1\n"
 
 pub examples : Examples
-unfolding over count every any lower least tabulate blocks fold each flatMap bytes sameInput sameOutput sameSlot isFree isWaiting isReady isLive isReadyFor records isWhole cellsOf wordsOf isBlank isSound sameEntry isAlone fit older readingFor before isDone firstWord tagWord arrives arriving live lengthsFit outside firstOf freshAnswer slotAnswer lowestFree enter inhale readyCount readings conflict isOpen firstOpen none add round matchOf moved phase phases matchWords matches oldestReady isEmitted exhale exhaled freshStart entered transferred slotRuns slot cut isDigit push value isNumber firstLine isOutput arrival isSlotLine slotWords digits decimal field headerLine cellLine refusedLine unreadableLine heldLine linesOf heldText endText cellText slotText slotOn lineText lineAfter slotsText startText firstText openingText programText prints
+unfolding Computing fold each flatMap bytes cut isDigit push value isNumber firstLine isOutput arrival isSlotLine slotWords digits decimal field headerLine cellLine refusedLine unreadableLine heldLine linesOf heldText endText cellText slotText slotOn lineText lineAfter slotsText startText firstText openingText programText prints
 examples = record {
   whole = refl;
   missing = refl;

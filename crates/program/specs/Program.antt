@@ -8,7 +8,7 @@ use lib.Dec.{eqb}
 use lib.ListN.{getD, replicate}
 use Rattle.laws.specs.Lists.{blocks}
 use Rattle.rules.specs.Cells.{switch, width, cellsOf}
-use Rattle.rules.specs.Answers.{numberOf, isDone, exhaledWidth, live}
+use Rattle.rules.specs.Answers.{lists, numberOf, isDone, exhaledWidth, live}
 use Rattle.rules.specs.Calls.{Started, freshStart, Outcome, slot, State}
 use Rattle.text.specs.declared.FirstLine.{FirstLine}
 use Rattle.text.specs.declared.FirstLine.the-variants.{Numbers, Unreadable}
@@ -39,7 +39,7 @@ slotText t n e = blocks n (cellText t e)
 -- the slot that a line's words ask for. The other two lists have the lengths that go with the numbers; an accepted slot writes every word.
 unfoldable pub slotOn : State → List ℕ → Outcome
 slotOn x words =
-    slot (x .numbers) (x .table) words (replicate (x .numbers .speedup * x .numbers .ports) 0) (replicate (x .numbers .ports * exhaledWidth) 0)
+    slot (x .numbers) (x .table) (lists words (replicate (x .numbers .speedup * x .numbers .ports) 0) (replicate (x .numbers .ports * exhaledWidth) 0))
 
 -- "A refused slot prints `refused` and the number, and the next line is tried at the same slot."
 unfoldable pub lineText : State → List ℕ → List ℕ

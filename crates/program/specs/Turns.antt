@@ -14,7 +14,7 @@ use Rattle.laws.specs.Count.{count-le}
 use Rattle.laws.specs.Lists.{blocks-zero, blocks-more}
 use Rattle.laws.specs.Pieces.{part, part-rest}
 use Rattle.rules.specs.Cells.{nth, isLive, records, cellsOf}
-use Rattle.rules.specs.Answers.{numberOf, isDone, live, slotAnswer}
+use Rattle.rules.specs.Answers.{Lists, lists, numberOf, isDone, live, slotAnswer}
 use Rattle.rules.specs.Calls.{State, Outcome, slot, slotRuns, slotRefused}
 use Rattle.words.specs.Words.{length-cellsOf}
 use Rattle.text.specs.declared.SlotReader.{SlotReader}
@@ -33,19 +33,19 @@ use Rattle.program.specs.Bytes.{line-bytes, line-end, between}
 -- the slots --------------------------------------------------------------------------------------
 
 -- the numbers of a switch but its next slot stay
-pub slot-ports : (w : Switch) (table arrivals matches exhaled : List ℕ) → slot w table arrivals matches exhaled .numbers .ports ≡ w .ports
+pub slot-ports : (w : Switch) (table : List ℕ) (l : Lists) → slot w table l .numbers .ports ≡ w .ports
 unfolding slot slotRuns
-slot-ports w table arrivals matches exhaled = go (isDone (slotAnswer w table arrivals matches exhaled))
+slot-ports w table l = go (isDone (slotAnswer w table l))
   where
-    go : (b : Bool) → cond b (slotRuns w table arrivals) (slotRefused (slotAnswer w table arrivals matches exhaled) w table matches exhaled) .numbers .ports ≡ w .ports
+    go : (b : Bool) → cond b (slotRuns w table (l .arrivals)) (slotRefused (slotAnswer w table l) w table l) .numbers .ports ≡ w .ports
     go true = refl
     go false = refl
 
-pub slot-speedup : (w : Switch) (table arrivals matches exhaled : List ℕ) → slot w table arrivals matches exhaled .numbers .speedup ≡ w .speedup
+pub slot-speedup : (w : Switch) (table : List ℕ) (l : Lists) → slot w table l .numbers .speedup ≡ w .speedup
 unfolding slot slotRuns
-slot-speedup w table arrivals matches exhaled = go (isDone (slotAnswer w table arrivals matches exhaled))
+slot-speedup w table l = go (isDone (slotAnswer w table l))
   where
-    go : (b : Bool) → cond b (slotRuns w table arrivals) (slotRefused (slotAnswer w table arrivals matches exhaled) w table matches exhaled) .numbers .speedup ≡ w .speedup
+    go : (b : Bool) → cond b (slotRuns w table (l .arrivals)) (slotRefused (slotAnswer w table l) w table l) .numbers .speedup ≡ w .speedup
     go true = refl
     go false = refl
 
@@ -63,7 +63,7 @@ module _ (x : State) (words : List ℕ) (o : Outcome) (is : o ≡ slotOn x words
   unfolding lineAfter
   line-after = rw (← is)
 
-pub on-zeros : (x : State) (words matches exhaled : List ℕ) (o : Outcome) → o ≡ slot (x .numbers) (x .table) words matches exhaled
+pub on-zeros : (x : State) (words matches exhaled : List ℕ) (o : Outcome) → o ≡ slot (x .numbers) (x .table) (lists words matches exhaled)
     → matches ≡ replicate (x .numbers .speedup * x .numbers .ports) 0 → exhaled ≡ replicate (x .numbers .ports * 4) 0 → o ≡ slotOn x words
 unfolding slotOn
 on-zeros x words matches exhaled o is m e = rw (← m, ← e) is
@@ -72,8 +72,8 @@ pub sizes-after : (x : Running) (table words : List ℕ) (o : Outcome) → o ≡
     → Sizes (record { crossbar = record { numbers = o .numbers }; words = x .words })
 unfolding slotOn
 sizes-after x table words o is z = record {
-  ports = rw (is, slot-ports (x .crossbar .numbers) (take (x .words) table) words _ _) (z .ports);
-  speedup = rw (is, slot-speedup (x .crossbar .numbers) (take (x .words) table) words _ _) (z .speedup);
+  ports = rw (is, slot-ports (x .crossbar .numbers) (take (x .words) table) (lists words _ _)) (z .ports);
+  speedup = rw (is, slot-speedup (x .crossbar .numbers) (take (x .words) table) (lists words _ _)) (z .speedup);
   words = z .words;
 }
 

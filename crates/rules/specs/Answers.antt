@@ -27,6 +27,16 @@ numberOf NoRoom = 8
 unfoldable pub isDone : Answer → Bool
 isDone a = eqb (numberOf a) 0
 
+-- The lists that a slot is called with ------------------------------------------------------------
+
+pub record Lists : Type 0 where
+  pub arrivals : List ℕ
+  pub matches : List ℕ
+  pub exhaled : List ℕ
+
+abbrev pub lists : List ℕ → List ℕ → List ℕ → Lists
+lists arrivals matches exhaled = record { arrivals = arrivals; matches = matches; exhaled = exhaled }
+
 -- "Arrivals: 2N words. For each input: 0 for none, or output + 1; then the tag. After a 0 the tag is not looked at."
 abbrev pub arrivalWidth : ℕ
 arrivalWidth = 2
@@ -51,9 +61,11 @@ live cs = count (λ k. isLive (nth cs k)) (length cs)
 abbrev pub exhaledWidth : ℕ
 exhaledWidth = 4
 
-unfoldable pub lengthsFit : Switch → List ℕ → List ℕ → List ℕ → Bool
-lengthsFit w arrivals matches exhaled =
-    eqb (length arrivals) (w .ports * arrivalWidth) && eqb (length matches) (w .speedup * w .ports) && eqb (length exhaled) (w .ports * exhaledWidth)
+unfoldable pub lengthsFit : Switch → Lists → Bool
+lengthsFit w l =
+    eqb (length (l .arrivals)) (w .ports * arrivalWidth)
+    && eqb (length (l .matches)) (w .speedup * w .ports)
+    && eqb (length (l .exhaled)) (w .ports * exhaledWidth)
 
 -- "0 or above"
 unfoldable pub outside : ℕ → ℕ → Bool
@@ -72,7 +84,9 @@ unfoldable pub firstOf : List Check → Answer
 firstOf [] = Done
 firstOf (c ∷ cs) = cond (c .holds) (c .answer) (firstOf cs)
 
--- rows 1 to 3. Words that are no whole records make no table.
+-- The rows, in groups. A group is checked as one, and a row that is added is added to its group.
+
+-- sizes: rows 1 to 3. Words that are no whole records make no table.
 abbrev pub sizeChecks : Switch → List ℕ → List Check
 sizeChecks w table =
     row (outside (w .ports) mostPorts) BadPorts
@@ -80,20 +94,37 @@ sizeChecks w table =
     ∷ row (not (isWhole table) || outside (records table) mostRecords) BadRecords
     ∷ []
 
--- rows 4 to 8
-abbrev pub slotChecks : Switch → List ℕ → List ℕ → List ℕ → List ℕ → List Check
-slotChecks w table arrivals matches exhaled =
-    row (not (fit (w .ports) (w .next) (cellsOf table))) Unfit
-    ∷ row (not (lengthsFit w arrivals matches exhaled)) BadLists
-    ∷ row (any (λ i. ltb (w .ports) (firstWord arrivals i)) (w .ports)) NoSuchOutput
-    ∷ row (eqb (w .next .0) lastSlot) ClockSpent
-    ∷ row (ltb (records table) (live (cellsOf table) + arriving (w .ports) arrivals)) NoRoom
-    ∷ []
+-- the table: row 4
+abbrev pub tableChecks : Switch → List ℕ → List Check
+tableChecks w table = row (not (fit (w .ports) (w .next) (cellsOf table))) Unfit ∷ []
+
+-- the lists: row 5
+abbrev pub listChecks : Switch → Lists → List Check
+listChecks w l = row (not (lengthsFit w l)) BadLists ∷ []
+
+-- what arrives: row 6
+abbrev pub arrivalChecks : Switch → List ℕ → List Check
+arrivalChecks w arrivals = row (any (λ i. ltb (w .ports) (firstWord arrivals i)) (w .ports)) NoSuchOutput ∷ []
+
+-- the clock: row 7
+abbrev pub clockChecks : Switch → List Check
+clockChecks w = row (eqb (w .next .0) lastSlot) ClockSpent ∷ []
+
+-- room: row 8
+abbrev pub roomChecks : Switch → List ℕ → List ℕ → List Check
+roomChecks w table arrivals = row (ltb (records table) (live (cellsOf table) + arriving (w .ports) arrivals)) NoRoom ∷ []
 
 -- "A fresh start gives 0, 1, 2 or 3 only and does not read the old records."
+abbrev pub freshChecks : Switch → List ℕ → List Check
+freshChecks = sizeChecks
+
 unfoldable pub freshAnswer : Switch → List ℕ → Answer
-freshAnswer w table = firstOf (sizeChecks w table)
+freshAnswer w table = firstOf (freshChecks w table)
 
 -- "A slot may give any."
-unfoldable pub slotAnswer : Switch → List ℕ → List ℕ → List ℕ → List ℕ → Answer
-slotAnswer w table arrivals matches exhaled = firstOf (sizeChecks w table ++ slotChecks w table arrivals matches exhaled)
+abbrev pub slotChecks : Switch → List ℕ → Lists → List Check
+slotChecks w table l =
+    sizeChecks w table ++ (tableChecks w table ++ (listChecks w l ++ (arrivalChecks w (l .arrivals) ++ (clockChecks w ++ roomChecks w table (l .arrivals)))))
+
+unfoldable pub slotAnswer : Switch → List ℕ → Lists → Answer
+slotAnswer w table l = firstOf (slotChecks w table l)

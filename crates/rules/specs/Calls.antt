@@ -9,7 +9,7 @@ use Rattle.rules.specs.declared.Switch.{Switch}
 use Rattle.rules.specs.declared.Answer.{Answer}
 use Rattle.rules.specs.declared.Answer.the-variants.{Done}
 use Rattle.rules.specs.Cells.{switch, cellsOf, wordsOf}
-use Rattle.rules.specs.Answers.{isDone, freshAnswer, slotAnswer}
+use Rattle.rules.specs.Answers.{Lists, isDone, freshAnswer, slotAnswer}
 use Rattle.rules.specs.Phases.{inhale, readings, phases, matches, exhale, exhaled}
 
 -- "makes t 0"; "an accepted slot raises t by 1, nothing else there changes"
@@ -67,13 +67,11 @@ slotRuns w table arrivals =
     }
 
 -- "A refusal returns the switch's numbers as they came and leaves the table and all three lists as found"
-abbrev pub slotRefused : Answer → Switch → List ℕ → List ℕ → List ℕ → Outcome
-slotRefused a w table matches exhaled = record { answer = a; numbers = w; table = table; matches = matches; exhaled = exhaled }
+abbrev pub slotRefused : Answer → Switch → List ℕ → Lists → Outcome
+slotRefused a w table l = record { answer = a; numbers = w; table = table; matches = l .matches; exhaled = l .exhaled }
 
-unfoldable pub slot : Switch → List ℕ → List ℕ → List ℕ → List ℕ → Outcome
-slot w table arrivals matches exhaled =
-    let a : Answer = slotAnswer w table arrivals matches exhaled in
-    cond (isDone a) (slotRuns w table arrivals) (slotRefused a w table matches exhaled)
+unfoldable pub slot : Switch → List ℕ → Lists → Outcome
+slot w table l = let a : Answer = slotAnswer w table l in cond (isDone a) (slotRuns w table (l .arrivals)) (slotRefused a w table l)
 
 -- Runs -----------------------------------------------------------------------------------------
 
@@ -82,10 +80,10 @@ pub record State : Type 0 where
   pub numbers : Switch
   pub table : List ℕ
 
--- a fresh start with any numbers, or a slot with any arrivals, and any words in the other two lists
+-- a fresh start with any numbers, or a slot with any lists
 pub data Call : Type 0 where
   starts : Switch → Call
-  slots : List ℕ → List ℕ → List ℕ → Call
+  slots : Lists → Call
 
 pub record Answered : Type 0 where
   pub answer : Answer
@@ -104,7 +102,7 @@ bySlot s = record { answer = s .answer; after = record { numbers = s .numbers; t
 -- what a call answers, and what it leaves
 unfoldable pub does : State → Call → Answered
 does x (starts w) = byStart (x .numbers) (freshStart w (x .table))
-does x (slots arrivals matches exhaled) = bySlot (slot (x .numbers) (x .table) arrivals matches exhaled)
+does x (slots l) = bySlot (slot (x .numbers) (x .table) l)
 
 -- the state after some calls
 unfoldable pub run : State → List Call → State

@@ -23,7 +23,7 @@ isAccepted x c = isDone (does x c .answer)
 
 abbrev pub isStart : Call → Bool
 isStart (starts w) = true
-isStart (slots arrivals matches exhaled) = false
+isStart (slots l) = false
 
 -- an accepted fresh start; an accepted slot
 unfoldable pub restarts : State → Call → Bool
@@ -47,7 +47,7 @@ stateAt x calls j = run x (take j calls)
 -- A call of a program met its contract: what it returned and left is what the rules give for what came in
 abbrev pub Met : State → Call → Answered → Type 0
 Met x (starts w) a = (s : Started) × (s ≡ freshStart w (x .table)) × (a ≡ byStart (x .numbers) s)
-Met x (slots arrivals matches exhaled) a = (s : Outcome) × (s ≡ slot (x .numbers) (x .table) arrivals matches exhaled) × (a ≡ bySlot s)
+Met x (slots l) a = (s : Outcome) × (s ≡ slot (x .numbers) (x .table) l) × (a ≡ bySlot s)
 
 -- and so did each of its calls, made on what the one before it left
 abbrev pub Ran : State → List Call → List Answered → Type 0
@@ -98,7 +98,7 @@ pub record Leaves (c : Cell) (s : ℕ) (w : Switch) (exhaled : List ℕ) : Type 
 -- the cells that an accepted slot's arrivals bring
 unfoldable pub brings : State → Call → ℕ
 brings x (starts w) = 0
-brings x (slots arrivals matches exhaled) = cond (isAccepted x (slots arrivals matches exhaled)) (arriving (x .numbers .ports) arrivals) 0
+brings x (slots l) = cond (isAccepted x (slots l)) (arriving (x .numbers .ports) (l .arrivals)) 0
 
 -- the cells that its exhaled list shows
 unfoldable pub emissions : State → Call → ℕ

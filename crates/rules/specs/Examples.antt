@@ -6,24 +6,19 @@ use mathlib.Core.Path.{_≡_, refl}
 use mathlib.Core.Bool.{true}
 use mathlib.Core.List.{List, [], _∷_, _++_}
 use lib.ListN.{replicate}
-use Rattle.laws.specs.Walk.{over}
-use Rattle.laws.specs.Count.{count, every, any}
-use Rattle.laws.specs.Order.{lower}
-use Rattle.laws.specs.Least.{least}
-use Rattle.laws.specs.Lists.{tabulate, blocks}
 use Rattle.rules.specs.declared.Cell.{Cell}
 use Rattle.rules.specs.declared.Switch.{Switch}
-use Rattle.rules.specs.Cells.{switch, cell, inputOf, outputOf, slotOf, sameInput, sameOutput, sameSlot, isFree, isWaiting, isReady, isLive, isReadyFor, records, isWhole, cellsOf, wordsOf, isBlank, isSound, sameEntry, isAlone, fit, older, readingFor, before}
-use Rattle.rules.specs.Answers.{numberOf, isDone, firstWord, tagWord, arrives, arriving, live, lengthsFit, outside, firstOf, freshAnswer, slotAnswer}
-use Rattle.rules.specs.Phases.{lowestFree, enter, inhale, readyCount, readings, conflict, isOpen, firstOpen, none, add, round, matchOf, moved, phase, phases, matchWords, matches, oldestReady, isEmitted, exhale, exhaled}
-use Rattle.rules.specs.Calls.{Call, starts, slots, Answered, freshStart, entered, transferred, slotRuns, slot, does, run}
+use Rattle.rules.specs.Cells.{switch, cell, inputOf, outputOf, slotOf, width, wordsOf, fit}
+use Rattle.rules.specs.Answers.{lists, exhaledWidth, numberOf}
+use Rattle.rules.specs.Calls.{Call, starts, slots, Answered, freshStart, does, run}
+use Rattle.rules.specs.Computing.{Computing}
 
 abbrev pub zeros : ℕ → List ℕ
 zeros n = replicate n 0
 
 -- the number that a fresh start with N and S gives, on a table of two records
 unfoldable pub startNumber : ℕ → ℕ → ℕ
-startNumber n s = numberOf (freshStart (switch n s 9) (zeros 10) .answer)
+startNumber n s = numberOf (freshStart (switch n s 9) (zeros (2 * width)) .answer)
 
 -- records by their numbers, and a slot with these arrivals and lists of the right lengths, on a table as held
 abbrev pub waiting : ℕ → ℕ → ℕ → Cell
@@ -33,7 +28,7 @@ abbrev pub ready : ℕ → ℕ → ℕ → Cell
 ready i o t = cell 2 (inputOf i) (outputOf o) (slotOf t) 0
 
 abbrev pub arrivalsOf : ℕ → ℕ → List ℕ → Call
-arrivalsOf n s arrivals = slots arrivals (zeros (s * n)) (zeros (n * 4))
+arrivalsOf n s arrivals = slots (lists arrivals (zeros (s * n)) (zeros (n * exhaledWidth)))
 
 unfoldable pub held : Switch → List ℕ → List ℕ → Answered
 held w table arrivals = does (record { numbers = w; table = table }) (arrivalsOf (w .ports) (w .speedup) arrivals)
@@ -41,7 +36,7 @@ held w table arrivals = does (record { numbers = w; table = table }) (arrivalsOf
 -- what the last of these slots answers and leaves, after a fresh start on a table of other words
 unfoldable pub fresh : ℕ → ℕ → ℕ → List (List ℕ) → List ℕ → Answered
 fresh n s size earlier arrivals =
-    does (run (record { numbers = switch 0 0 0; table = replicate (size * 5) 7 }) (starts (switch n s 9) ∷ calls earlier)) (arrivalsOf n s arrivals)
+    does (run (record { numbers = switch 0 0 0; table = replicate (size * width) 7 }) (starts (switch n s 9) ∷ calls earlier)) (arrivalsOf n s arrivals)
   where
     calls : List (List ℕ) → List Call
     calls [] = []
@@ -113,7 +108,7 @@ pub record Bench : Type 0 where
   pub older-moves : held (switch 2 1 5) (wordsOf (waiting 0 0 2 ∷ waiting 1 0 1 ∷ [])) (zeros 4) .matches ≡ (2 ∷ 0 ∷ [])
 
 pub bench : Bench
-unfolding over count every any lower least tabulate blocks sameInput sameOutput sameSlot isFree isWaiting isReady isLive isReadyFor records isWhole cellsOf wordsOf isBlank isSound sameEntry isAlone fit older readingFor before isDone firstWord tagWord arrives arriving live lengthsFit outside firstOf freshAnswer slotAnswer lowestFree enter inhale readyCount readings conflict isOpen firstOpen none add round matchOf moved phase phases matchWords matches oldestReady isEmitted exhale exhaled freshStart entered transferred slotRuns slot does run startNumber held fresh numberIn
+unfolding Computing startNumber held fresh numberIn
 bench =
     record {
       ports-16 = refl;

@@ -4,4 +4,5 @@ pub mod Phases
 pub mod Calls
 pub mod Model
 pub mod Demands
+pub mod Computing
 pub mod Examples

@@ -13,6 +13,7 @@ use Rattle.rules.specs.Cells.{width, mostRecords, isWhole, records, cellsOf, wo
 use Rattle.rules.specs.Phases.{inhale, readings, phases, exhale}
 use Rattle.rules.specs.Phases.{exhaled as exhaledOf}
 use Rattle.rules.specs.Phases.{matches as matchesOf}
+use Rattle.rules.specs.Answers.{Lists}
 use Rattle.rules.specs.Calls.{Started, freshStart, Outcome, entered, transferred, slotRuns, slot}
 use Rattle.words.specs.Words.{length-cellsOf, length-wordsOf, cellsOf-wordsOf, words-known}
 use Rattle.ideal.specs.Fit.{Fit}
@@ -31,7 +32,10 @@ pub record Ran (w : Switch) (table arrivals table′ matches exhaled : List ℕ)
 pub in-ports-fit : {n : ℕ} {t : Slot} {cs : List Cell} → Fit n t cs → InPorts n cs
 in-ports-fit f = record { inputs = λ k l w. f .each k l .input (omega arith); outputs = λ k l w. f .each k l .output (omega arith) }
 
-module _ {w : Switch} {table arrivals matches exhaled : List ℕ} (a : Accepted w table arrivals matches exhaled) where
+module _ {w : Switch} {table : List ℕ} {l : Lists} (a : Accepted w table l) where
+  abbrev arrivals : List ℕ
+  arrivals = l .arrivals
+
   -- the table after the inhale is within bounds and has its ports in order
   pub entered-in-ports : (table1 : List ℕ) → cellsOf table1 ≡ inhale (w .ports) (w .next) arrivals (cellsOf table) → InPorts (w .ports) (cellsOf table1)
   unfolding entered
@@ -74,5 +78,5 @@ module _ {w : Switch} {table arrivals matches exhaled : List ℕ} (a : Accepted 
 pub fresh-start-settled : (w : Switch) (table : List ℕ) (x y : Started) → x ≡ freshStart w table → y ≡ freshStart w table → x ≡ y
 fresh-start-settled w table x y p q = p ∙ sym q
 
-pub slot-settled : (w : Switch) (table arrivals matches exhaled : List ℕ) (x y : Outcome) → x ≡ slot w table arrivals matches exhaled → y ≡ slot w table arrivals matches exhaled → x ≡ y
-slot-settled w table arrivals matches exhaled x y p q = p ∙ sym q
+pub slot-settled : (w : Switch) (table : List ℕ) (l : Lists) (x y : Outcome) → x ≡ slot w table l → y ≡ slot w table l → x ≡ y
+slot-settled w table l x y p q = p ∙ sym q

@@ -10,8 +10,8 @@ use Rattle.exports.proofs.treikwater_fresh_start.Tie as tie
 
 returns : tie.Need-returns
 returns c =
-    let a = c .before .before .before .args in
-    sym (started-unnumbered (now (a .numbers)) (now (a .table)) (c .if1 .taken))
+    let s : tie.Start = c .before .before .before in
+    sym (started-unnumbered (now (s .args .numbers)) (now (s .args .table)) (c .if1 .taken))
 
 read-numbers-requires : tie.Need-read-numbers-requires
 read-numbers-requires c κs = search needs
@@ -33,12 +33,15 @@ same-length-2 c = search needs
 
 returns-2 : tie.Need-returns-2
 returns-2 c =
-    let a = c .before .before .before .before .before .before .before .before .before .before .before .before .before .before .args in
-    let q = c .before .before .before .before .before .before .before .fresh-start in
-    (λ i. record { number = c .number .ensures i; numbers = c .before .before .before .write-numbers .ensures i; table = q .last .1 .0 })
-    ∙ ap startedWords (q .ensures)
-    ∙ ap (λ (w : Switch). startedWords (freshStart w (now (a .table)))) (c .before .before .before .before .before .before .before .before .before .read-numbers .ensures)
-    ∙ sym (started-numbered (now (a .numbers)) (now (a .table)) (c .before .before .before .before .before .before .before .before .before .before .before .if1 .left))
+    let written : tie.After-write-numbers = c .before .before .before in
+    let called : tie.After-fresh-start = written .before .before .before .before in
+    let read : tie.After-read-numbers = called .before .before in
+    let right : tie.Else1 = read .before .before in
+    let s : tie.Start = right .before .before .before in
+    (λ i. record { number = c .number .ensures i; numbers = written .write-numbers .ensures i; table = called .fresh-start .last .1 .0 })
+    ∙ ap startedWords (called .fresh-start .ensures)
+    ∙ ap (λ (w : Switch). startedWords (freshStart w (now (s .args .table)))) (read .read-numbers .ensures)
+    ∙ sym (started-numbered (now (s .args .numbers)) (now (s .args .table)) (right .if1 .left))
 
 pub treikwater-fresh-start-spec : {M : Type 1} → statement M
 treikwater-fresh-start-spec =

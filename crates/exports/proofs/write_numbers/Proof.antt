@@ -1,7 +1,7 @@
--- Three stores make the three words.
+-- A store for each number makes the list of the numbers.
 use borrow.Author.Needs.{needs}
 use denote.Ref.{now}
-use Rattle.exports.specs.Exports.{three-set}
+use Rattle.exports.specs.Exports.{all-set}
 use Rattle.exports.proofs.write_numbers.Statement.{statement}
 use Rattle.exports.proofs.write_numbers.Tie as tie
 
@@ -18,7 +18,7 @@ same-length : tie.Need-same-length
 same-length c = search needs
 
 returns : tie.Need-returns
-returns c = three-set (now (c .args .numbers)) _ _ _ (c .pre)
+returns c = all-set (now (c .args .numbers)) (c .args .w) (c .pre)
 
 pub write-numbers-spec : {M : Type 1} → statement M
 write-numbers-spec =

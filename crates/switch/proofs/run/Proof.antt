@@ -14,7 +14,7 @@ transfers-requires : tie.Need-transfers-requires
 transfers-requires c κs =
     let a = c .before .before .before .before .before .before .before .before .before .before .before .before .pre in
     let h = c .before .before .before .before .before .before .inhale .ensures in
-    (a .sizes .ports .1, (a .matches-long, (entered-in-ports a _ (h .1), entered-small a _ (h .0))))
+    (a .sizes .ports .1, (a .lists .matches, (entered-in-ports a _ (h .1), entered-small a _ (h .0))))
 
 exhale-requires : tie.Need-exhale-requires
 exhale-requires c κs = search needs

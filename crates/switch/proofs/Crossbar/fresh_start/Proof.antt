@@ -1,17 +1,38 @@
 -- A refused start leaves all as found; an accepted one is the rules' fresh start.
-use mathlib.Core.Path.{sym, ap, _∙_}
-use borrow.Author.Tests.{not-true, not-false}
+use Prim.Native.Nat.{ℕ}
+use mathlib.Core.Path.{_≡_, sym, ap, _∙_}
+use mathlib.Core.Bool.{So}
+use mathlib.Core.List.{List}
 use borrow.Author.Needs.{needs}
 use denote.Ref.{now}
 use Rattle.rules.specs.declared.Answer.{Answer}
-use Rattle.rules.specs.Answers.{isDone}
+use Rattle.rules.specs.declared.Switch.{Switch}
+use Rattle.rules.specs.Answers.{isDone, freshAnswer}
 use Rattle.rules.specs.Calls.{startRefused}
-use Rattle.ideal.specs.Calls.{done-is, fresh-accepted, fresh-refused}
+use Rattle.ideal.specs.Calls.{fresh-accepted, fresh-refused, fresh-is-done}
+use Rattle.checks.specs.Checks.{group-passed, group-refused}
 use Rattle.switch.proofs.Crossbar.fresh_start.Statement.{statement}
 use Rattle.switch.proofs.Crossbar.fresh_start.Tie as tie
 
-check-sizes-requires : tie.Need-check-sizes-requires
-check-sizes-requires c κs = search needs
+-- what the call is made with
+abbrev w : tie.Start → Switch
+w s = s .args .self .numbers
+
+abbrev table : tie.Start → List ℕ
+table s = now (s .args .table)
+
+abbrev entry : tie.After-check-start → tie.Start
+entry c = c .before .before .before .before
+
+-- where it is not refused
+abbrev going : tie.Else1 → tie.Start
+going c = entry (c .before .before)
+
+done : (c : tie.Else1) → So (isDone (freshAnswer (w (going c)) (table (going c))))
+done c = group-passed (c .before .before .check-start .ensures) (c .before .is-done .ensures) (c .if1 .left)
+
+check-start-requires : tie.Need-check-start-requires
+check-start-requires c κs = search needs
 
 is-done-requires : tie.Need-is-done-requires
 is-done-requires c κs = search needs
@@ -21,10 +42,9 @@ same-length c = search needs
 
 returns : tie.Need-returns
 returns c =
-    let a = c .before .before .before .before .before .before .args in
-    let e = c .before .before .check-sizes .ensures in
-    let h = ap isDone (sym e) ∙ sym (c .before .is-done .ensures) ∙ not-true _ (c .if1 .taken) in
-    ap (λ (x : Answer). startRefused x (a .self .numbers) (now (a .table))) e ∙ sym (fresh-refused (a .self .numbers) (now (a .table)) h)
+    let s = entry (c .before .before) in
+    let e = c .before .before .check-start .ensures in
+    ap (λ (x : Answer). startRefused x (w s) (table s)) e ∙ sym (fresh-refused (w s) (table s) (group-refused e (c .before .is-done .ensures) (c .if1 .taken)))
 
 clear-requires : tie.Need-clear-requires
 clear-requires c κs = search needs
@@ -37,20 +57,12 @@ same-length-2 c = search needs
 
 returns-2 : tie.Need-returns-2
 returns-2 c =
-    let a = c .before .before .before .before .before .before .before .before .before .before .before .args in
-    let e = c .before .before .before .before .before .before .before .check-sizes .ensures in
-    let h = sym (c .before .before .before .before .before .before .is-done .ensures) ∙ not-false _ (c .before .before .before .before .before .if1 .left) in
-    (λ i. record { answer = done-is _ h i; numbers = c .restarted .ensures i; table = c .before .before .before .clear .ensures i }) ∙ sym (fresh-accepted (a .self .numbers) (now (a .table)) (ap isDone (sym e) ∙ h))
+    let cleared : tie.After-clear = c .before .before .before in
+    let p = cleared .before .before in
+    let s = going p in
+    let e = p .before .before .check-start .ensures in
+    let d = fresh-is-done (w s) (table s) e (ap isDone e ∙ done p) in
+    (λ i. record { answer = d i; numbers = c .restarted .ensures i; table = cleared .clear .ensures i }) ∙ sym (fresh-accepted (w s) (table s) (done p))
 
 pub fresh-start-spec : {M : Type 1} → statement M
-fresh-start-spec =
-    tie.close
-    (tie.spec
-    check-sizes-requires
-    is-done-requires
-    same-length
-    returns
-    clear-requires
-    restarted-requires
-    same-length-2
-    returns-2)
+fresh-start-spec = tie.close (tie.spec check-start-requires is-done-requires same-length returns clear-requires restarted-requires same-length-2 returns-2)

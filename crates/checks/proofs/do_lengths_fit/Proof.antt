@@ -4,8 +4,8 @@ use native.Mathlib.Nat.{mul-le-mul-right}
 use borrow.Author.Tests.{eq-eqb, ne-eqb}
 use borrow.Author.Needs.{needs}
 use Rattle.rules.specs.Answers.{lengthsFit}
-use Rattle.switch.proofs.do_lengths_fit.Statement.{statement}
-use Rattle.switch.proofs.do_lengths_fit.Tie as tie
+use Rattle.checks.proofs.do_lengths_fit.Statement.{statement}
+use Rattle.checks.proofs.do_lengths_fit.Tie as tie
 
 cast-n : tie.Need-cast-n
 cast-n c = search needs

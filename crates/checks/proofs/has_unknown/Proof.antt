@@ -7,8 +7,8 @@ use lib.Dec.{ltb}
 use borrow.Author.Tests.{lt-ltb, le-ltb}
 use Rattle.laws.specs.Count.{any, any-none, any-more, →any}
 use Rattle.rules.specs.Answers.{firstWord}
-use Rattle.switch.proofs.has_unknown.Statement.{statement}
-use Rattle.switch.proofs.has_unknown.Tie as tie
+use Rattle.checks.proofs.has_unknown.Statement.{statement}
+use Rattle.checks.proofs.has_unknown.Tie as tie
 
 abbrev Inv-loop : tie.InvT-loop
 Inv-loop arrivals ports n i₀ i = (i ≤ ports) × (any (λ (k : ℕ). ltb ports (firstWord arrivals k)) i ≡ false)

@@ -1,8 +1,8 @@
 -- 0, or above the largest.
 use borrow.Author.Tests.{eq-eqb, ne-eqb}
 use Rattle.rules.specs.Answers.{outside}
-use Rattle.switch.proofs.is_outside.Statement.{statement}
-use Rattle.switch.proofs.is_outside.Tie as tie
+use Rattle.checks.proofs.is_outside.Statement.{statement}
+use Rattle.checks.proofs.is_outside.Tie as tie
 
 returns : tie.Need-returns
 unfolding outside

@@ -4,9 +4,9 @@ use lib.Dec.{ltb}
 use borrow.Author.Tests.{eq-eqb, ne-eqb, not-true, not-false}
 use borrow.Author.Needs.{needs}
 use Rattle.rules.specs.Answers.{outside}
-use Rattle.switch.specs.Checks.{sizeUnfit}
-use Rattle.switch.proofs.is_size_unfit.Statement.{statement}
-use Rattle.switch.proofs.is_size_unfit.Tie as tie
+use Rattle.checks.specs.Checks.{sizeUnfit}
+use Rattle.checks.proofs.is_size_unfit.Statement.{statement}
+use Rattle.checks.proofs.is_size_unfit.Tie as tie
 
 is-whole-requires : tie.Need-is-whole-requires
 is-whole-requires c κs = search needs

@@ -9,8 +9,8 @@ use borrow.Author.Tests.{eq-eqb, ne-eqb}
 use Rattle.laws.specs.Tests.{deny}
 use Rattle.laws.specs.Count.{count, count-zero, count-yes, count-no, count-le}
 use Rattle.rules.specs.Answers.{arrives, firstWord, arriving}
-use Rattle.switch.proofs.count_arriving.Statement.{statement}
-use Rattle.switch.proofs.count_arriving.Tie as tie
+use Rattle.checks.proofs.count_arriving.Statement.{statement}
+use Rattle.checks.proofs.count_arriving.Tie as tie
 
 abbrev Inv-loop : tie.InvT-loop
 Inv-loop arrivals ports n found₀ i₀ found i = (i ≤ ports) × (found ≡ count (arrives arrivals) i)
