@@ -95,7 +95,12 @@ isWhole ws = eqb (length ws % width) 0
 
 abbrev pub cellAt : List ℕ → ℕ → Cell
 cellAt ws k =
-    cell (getD ws (k * width) 0) (inputOf (getD ws (k * width + 1) 0)) (outputOf (getD ws (k * width + 2) 0)) (slotOf (getD ws (k * width + 3) 0)) (getD ws (k * width + 4) 0)
+    cell
+    (getD ws (k * width) 0)
+    (inputOf (getD ws (k * width + 1) 0))
+    (outputOf (getD ws (k * width + 2) 0))
+    (slotOf (getD ws (k * width + 3) 0))
+    (getD ws (k * width + 4) 0)
 
 unfoldable pub cellsOf : List ℕ → List Cell
 cellsOf ws = tabulate (records ws) (cellAt ws)

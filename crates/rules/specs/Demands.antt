@@ -84,13 +84,19 @@ emits exhaled o = eqb (getD exhaled (o * exhaledWidth) 0) 1
 
 unfoldable pub emitted : List ℕ → ℕ → Cell
 emitted exhaled o =
-    cell 2 (inputOf (getD exhaled (o * exhaledWidth + 1) 0)) (outputOf o) (slotOf (getD exhaled (o * exhaledWidth + 2) 0)) (getD exhaled (o * exhaledWidth + 3) 0)
+    cell
+    2
+    (inputOf (getD exhaled (o * exhaledWidth + 1) 0))
+    (outputOf o)
+    (slotOf (getD exhaled (o * exhaledWidth + 2) 0))
+    (getD exhaled (o * exhaledWidth + 3) 0)
 
 -- What the exhaled list of an accepted slot shows of cell c, w being the numbers in force: the slot with number s emits it, at its own output,
 -- and no other slot and no other output does. A cell is known by its slot and input.
 pub record Leaves (c : Cell) (s : ℕ) (w : Switch) (exhaled : List ℕ) : Type 0 where
   pub then : w .next .0 ≡ s → So (emits exhaled (c .output .0)) × So (same (emitted exhaled (c .output .0)) c)
-  pub once : (o : ℕ) → o < w .ports → So (emits exhaled o) → So (sameInput (emitted exhaled o .input) (c .input)) → So (sameSlot (emitted exhaled o .entered) (c .entered))
+  pub once : (o : ℕ) → o < w .ports → So (emits exhaled o)
+      → So (sameInput (emitted exhaled o .input) (c .input)) → So (sameSlot (emitted exhaled o .entered) (c .entered))
       → (w .next .0 ≡ s) × (o ≡ c .output .0)
 
 -- Totals ---------------------------------------------------------------------------------------

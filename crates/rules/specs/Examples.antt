@@ -96,14 +96,16 @@ pub record Bench : Type 0 where
   pub younger-moves : held (switch 2 1 5) (wordsOf (ready 1 0 2 ∷ waiting 0 0 3 ∷ waiting 0 1 4 ∷ [])) (zeros 4) .matches ≡ (0 ∷ 1 ∷ [])
   -- "(P) N 3, S 2, t 4, none ready. Waiting: input 0, slot 1, output 0; input 1, slot 0, output 2; input 1, slot 2, output 0; input 1,
   -- slot 3, output 1. No arrivals. Matches 1 0 2 then 2 0 0."
-  pub one-reading : held (switch 3 2 4) (wordsOf (waiting 0 0 1 ∷ waiting 1 2 0 ∷ waiting 1 0 2 ∷ waiting 1 1 3 ∷ [])) (zeros 6) .matches ≡ (1 ∷ 0 ∷ 2 ∷ 2 ∷ 0 ∷ 0 ∷ [])
+  pub one-reading : held (switch 3 2 4) (wordsOf (waiting 0 0 1 ∷ waiting 1 2 0 ∷ waiting 1 0 2 ∷ waiting 1 1 3 ∷ [])) (zeros 6) .matches
+      ≡ (1 ∷ 0 ∷ 2 ∷ 2 ∷ 0 ∷ 0 ∷ [])
   -- "(P) N 2, S 1, fresh. Slot 0: both inputs send to output 0. Slot 1: input 1 sends to output 1. In slot 1 output 1 emits nothing; its cell
   -- leaves in slot 2, though k is 0."
   pub needs-speedup-1 : fresh 2 1 4 (bothSend ∷ []) oneSends .exhaled ≡ (1 ∷ 1 ∷ 0 ∷ 8 ∷ 0 ∷ 0 ∷ 0 ∷ 0 ∷ [])
   pub needs-speedup-2 : fresh 2 1 4 (bothSend ∷ oneSends ∷ []) (zeros 4) .exhaled ≡ (0 ∷ 0 ∷ 0 ∷ 0 ∷ 1 ∷ 1 ∷ 1 ∷ 9 ∷ [])
   -- a cell is known by its slot and input: two that agree in output, slot and tag both leave, and a waiting cell is not emitted, however old
   pub both-leave : held (switch 2 3 5) (wordsOf (ready 0 1 4 ∷ ready 1 1 4 ∷ [])) (zeros 4) .after .table ≡ (zeros 5 ++ wordsOf (ready 1 1 4 ∷ []))
-  pub waits-its-turn : held (switch 2 1 5) (wordsOf (waiting 0 0 1 ∷ waiting 0 1 0 ∷ ready 1 0 3 ∷ [])) (zeros 4) .exhaled ≡ (1 ∷ 1 ∷ 3 ∷ 0 ∷ 1 ∷ 0 ∷ 0 ∷ 0 ∷ [])
+  pub waits-its-turn : held (switch 2 1 5) (wordsOf (waiting 0 0 1 ∷ waiting 0 1 0 ∷ ready 1 0 3 ∷ [])) (zeros 4) .exhaled
+      ≡ (1 ∷ 1 ∷ 3 ∷ 0 ∷ 1 ∷ 0 ∷ 0 ∷ 0 ∷ [])
   -- "with slot 2 at input 0 and slot 1 at input 1, both for output 0", the older moves
   pub older-moves : held (switch 2 1 5) (wordsOf (waiting 0 0 2 ∷ waiting 1 0 1 ∷ [])) (zeros 4) .matches ≡ (2 ∷ 0 ∷ [])
 

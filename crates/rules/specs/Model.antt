@@ -81,8 +81,10 @@ pub record Exhale (e : Cell → Bool) (t u : List Cell) : Type 0 where
 
 -- 2.1: a slot is an inhale phase, S transfer phases and an exhale phase; step j is the table after the inhale and j transfer phases. The
 -- reading of 3.5 is taken at the end of the inhale, "w (b)", and counts cells, so no cell stands in two records.
-pub record Slotted (s : ℕ) (b : Slot) (h : Cell → Bool) (x : ℕ → Cell → Bool) (e : Cell → Bool) (t : List Cell) (step : ℕ → List Cell) (u : List Cell) : Type 0 where
+pub record Slotted (s : ℕ) (b : Slot) (h : Cell → Bool) (x : ℕ → Cell → Bool) (e : Cell → Bool) (t : List Cell) (step : ℕ → List Cell) (u : List Cell)
+    : Type 0 where
   pub inhales : Inhale b h t (step 0)
-  pub single : (j k : ℕ) → j < length (step 0) → k < length (step 0) → So (isLive (nth (step 0) j)) → So (isLive (nth (step 0) k)) → So (same (nth (step 0) j) (nth (step 0) k)) → j ≡ k
+  pub single : (j k : ℕ) → j < length (step 0) → k < length (step 0) → So (isLive (nth (step 0) j)) → So (isLive (nth (step 0) k))
+      → So (same (nth (step 0) j) (nth (step 0) k)) → j ≡ k
   pub transfers : (j : ℕ) → j < s → Transfer (readings (step 0)) (x j) (step j) (step (suc j))
   pub exhales : Exhale e (step s) u
