@@ -5,6 +5,7 @@ pub mod Order
 pub mod Choice
 pub mod Least
 pub mod First
+pub mod SetWalk
 pub mod Lists
 pub mod Sifted
 pub mod Folds
