@@ -97,24 +97,28 @@ module _ {S : Type 0} {P : (ℕ → Bool) → S → Type 0} {members : ℕ → B
 -- The first of what belongs to the visited -------------------------------------------------------
 
 -- of the numbers below n that pass a test, each belongs to a port; what was found is the first of those whose port is in v
-abbrev pub FirstIn : (ℕ → Bool) → (ℕ → ℕ) → (ℕ → ℕ → Bool) → ℕ → (ℕ → Bool) → Found → Type 0
-FirstIn test port before n v x = First (λ k. test k && v (port k)) before n x
+pub record FirstIn (test : ℕ → Bool) (port : ℕ → ℕ) (before : ℕ → ℕ → Bool) (n : ℕ) (v : ℕ → Bool) (found : Found) : Type 0 where
+  pub first : First (λ k. test k && v (port k)) before n found
 
-module _ (test : ℕ → Bool) (port : ℕ → ℕ) (before : ℕ → ℕ → Bool) (n : ℕ) where
+module _ {test : ℕ → Bool} {port : ℕ → ℕ} {before : ℕ → ℕ → Bool} {n : ℕ} where
   pub first-nobody : FirstIn test port before n nobody Nothing
-  first-nobody j l h = false≢true (both (test j) false h .1)
+  first-nobody = record { first = λ j l h. false≢true (both (test j) false h .1) }
 
   -- what was found among the visited, or what the next one adds
-  module _ (w : Ranks before) (v : ℕ → Bool) (p : ℕ) (own : ℕ → Bool) (is-own : (k : ℕ) → k < n → own k ≡ (test k && eqb (port k) p)) where
-    pub first-visit : (x y : Found) → FirstIn test port before n v x → First own before n y
-        → FirstIn test port before n (also v p) (firstFound before x y)
-    unfolding also
-    first-visit = first-join before w (λ k. test k && v (port k)) own (λ k. test k && also v p (port k)) n
+  pub first-visit : {v : ℕ → Bool} {x : Found} → Ranks before → FirstIn test port before n v x → (p : ℕ) (own : ℕ → Bool)
+      → ((k : ℕ) → k < n → own k ≡ (test k && eqb (port k) p)) → (y : Found) → First own before n y
+      → FirstIn test port before n (also v p) (firstFound before x y)
+  unfolding also
+  first-visit {v} {x} w f p own is-own y g = record {
+    first =
+        first-join before w (λ k. test k && v (port k)) own (λ k. test k && also v p (port k)) n
         (λ k l h. let b = both (test k) _ h in join _ _ (b .0) (on-left _ _ (b .1)))
         (λ k l h. let b = both (test k) _ (sym (is-own k l) ∙ h) in join _ _ (b .0) (on-right (v (port k)) _ (b .1)))
         (λ k l h.
         let b = both (test k) _ h in
-        ⊎-elim (λ x. inl (join _ _ (b .0) x)) (λ x. inr (is-own k l ∙ join _ _ (b .0) x)) (either (v (port k)) _ (b .1)))
+        ⊎-elim (λ i. inl (join _ _ (b .0) i)) (λ i. inr (is-own k l ∙ join _ _ (b .0) i)) (either (v (port k)) _ (b .1)))
+        x y (f .first) g;
+  }
 
 -- The visited with the lowest key ----------------------------------------------------------------
 
