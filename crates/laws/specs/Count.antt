@@ -9,7 +9,7 @@ use native.Mathlib.Numerals.{add-one}
 use native.Mathlib.Nat.{eq-or-lt-of-le}
 use lib.Dec.{eqb}
 use borrow.Author.Tests.{eqb-true}
-use Rattle.laws.specs.Tests.{No, both, join, either, on-left, on-right, passes, refuted, to-no, denied, deny, same-test, eqb-self}
+use Rattle.laws.specs.Tests.{No, both, join, either, on-left, on-right, passes, refuted, to-no, denied, deny, eqb-self}
 use Rattle.laws.specs.Walk.{over, below-suc}
 
 abbrev pub bit : Bool → ℕ
@@ -86,11 +86,16 @@ module _ (p : ℕ → Bool) where
   pub find : (n : ℕ) → ((k : ℕ) × (k < n) × So (p k)) ⊎ ((k : ℕ) → k < n → So (p k) → ⊥)
   find n = ⊎-elim (λ h. inl (any→ n h)) (λ h. inr (none→ n h)) (passes (any p n))
 
-pub any-same : (p q : ℕ → Bool) (n : ℕ) → ((k : ℕ) → k < n → So (p k) → So (q k)) → ((k : ℕ) → k < n → So (q k) → So (p k)) → any p n ≡ any q n
-any-same p q n f g =
-    same-test (any p n) (any q n)
-    (λ h. let x = any→ p n h in →any q n (x .0) (x .1) (f (x .0) (x .1) (x .2)))
-    (λ h. let x = any→ q n h in →any p n (x .0) (x .1) (g (x .0) (x .1) (x .2)))
+-- one that passes two tests
+module _ (p q : ℕ → Bool) (n : ℕ) where
+  pub any-both→ : So (any (λ k. p k && q k) n) → (k : ℕ) × (k < n) × So (p k) × So (q k)
+  any-both→ h =
+      let x = any→ (λ k. p k && q k) n h in
+      let b = both (p (x .0)) _ (x .2) in
+      (x .0, x .1, b .0, b .1)
+
+  pub →any-both : (k : ℕ) → k < n → So (p k) → So (q k) → So (any (λ k. p k && q k) n)
+  →any-both k l x y = →any (λ k. p k && q k) n k l (join (p k) _ x y)
 
 -- count --------------------------------------------------------------------------------------
 
@@ -149,11 +154,7 @@ module _ (p : ℕ → Bool) where
   pub count-le : (n : ℕ) → count p n ≤ n
   unfolding count over
   count-le zero = omega arith
-  count-le (suc n) = omega (arith, count-le n, bits (p n))
-    where
-      bits : (a : Bool) → bit a ≤ 1
-      bits true = omega arith
-      bits false = omega arith
+  count-le (suc n) = omega (arith, count-le n, bit-le (p n))
 
   -- any two that pass are one
   pub count-one : (n : ℕ) → ((j k : ℕ) → j < n → k < n → So (p j) → So (p k) → j ≡ k) → count p n ≤ 1
@@ -180,7 +181,8 @@ module _ (p : ℕ → Bool) where
 -- no more below a lower number
 pub count-prefix : (p : ℕ → Bool) (m n : ℕ) → m ≤ n → count p m ≤ count p n
 count-prefix p m zero l = let e : m ≡ 0 = omega arith in rw e (omega arith)
-count-prefix p m (suc n) l = ⊎-elim (λ (e : m ≡ suc n). rw e (omega arith)) (λ h. omega (arith, count-prefix p m n (omega arith), count-suc p n)) (eq-or-lt-of-le l)
+count-prefix p m (suc n) l =
+    ⊎-elim (λ (e : m ≡ suc n). rw e (omega arith)) (λ h. omega (arith, count-prefix p m n (omega arith), count-suc p n)) (eq-or-lt-of-le l)
 
 -- none passes from m on
 pub count-above : (p : ℕ → Bool) (m n : ℕ) → m ≤ n → ((k : ℕ) → m ≤ k → k < n → So (p k) → ⊥) → count p n ≡ count p m
@@ -201,8 +203,10 @@ module _ (p q : ℕ → Bool) where
 
   -- p within q, and k in q alone
   pub count-more : (n : ℕ) → ((k : ℕ) → k < n → So (p k) → So (q k)) → (k : ℕ) → k < n → So (q k) → (So (p k) → ⊥) → count p n + 1 ≤ count q n
-  count-more n h k l x y =
-      omega (arith, count-hit (λ j. eqb j k) n k l (eqb-self k), count-apart p q (λ j. eqb j k) n (λ j i. (h j i, λ e. subst (λ m. So (q m)) (sym (eqb-true j k e)) x, λ z e. y (subst (λ m. So (p m)) (eqb-true j k e) z))))
+  count-more n h k l x y = omega (arith, count-hit (λ j. eqb j k) n k l (eqb-self k), count-apart p q (λ j. eqb j k) n sides)
+    where
+      sides : (j : ℕ) → j < n → (So (p j) → So (q j)) × (So (eqb j k) → So (q j)) × (So (p j) → So (eqb j k) → ⊥)
+      sides j i = (h j i, λ e. subst (λ m. So (q m)) (sym (eqb-true j k e)) x, λ z e. y (subst (λ m. So (p m)) (eqb-true j k e) z))
 
   -- one of q is not of p
   pub count-extra : (n : ℕ) → count p n < count q n → (k : ℕ) × (k < n) × So (q k) × No (p k)
@@ -212,15 +216,19 @@ module _ (p q : ℕ → Bool) where
       (λ f. absurd (omega (arith, within f)))
       (find (λ k. q k && not (p k)) n)
     where
+      also : ((k : ℕ) → k < n → So (q k && not (p k)) → ⊥) → (k : ℕ) → k < n → So (q k) → So (p k) ⊎ So false
+      also f k l x = inl (⊎-elim (λ y. y) (λ y. absurd (f k l (join (q k) (not (p k)) x (deny _ y)))) (passes (p k)))
+
       within : ((k : ℕ) → k < n → So (q k && not (p k)) → ⊥) → count q n ≤ count p n
-      within f = omega (arith, count-either q p (λ k. false) n (λ k l x. inl (⊎-elim (λ y. y) (λ y. absurd (f k l (join (q k) (not (p k)) x (deny _ y)))) (passes (p k)))), count-none (λ k. false) n (λ k l x. false≢true x))
+      within f = omega (arith, count-either q p (λ k. false) n (also f), count-none (λ k. false) n (λ k l x. false≢true x))
 
 pub count-same : (p q : ℕ → Bool) (n : ℕ) → ((k : ℕ) → k < n → So (p k) → So (q k)) → ((k : ℕ) → k < n → So (q k) → So (p k)) → count p n ≡ count q n
 count-same p q n f g = omega (arith, count-mono p q n f, count-mono q p n g)
 
 -- where no fewer pass than there are numbers, each passes
 pub count-full : (p : ℕ → Bool) (n : ℕ) → n ≤ count p n → (k : ℕ) → k < n → So (p k)
-count-full p n h k l = ⊎-elim (λ x. x) (λ x. absurd (omega (arith, count-all n, count-more p (λ j. true) n (λ j i y. refl) k l refl (λ y. refuted y x)))) (passes (p k))
+count-full p n h k l =
+    ⊎-elim (λ x. x) (λ x. absurd (omega (arith, count-all n, count-more p (λ j. true) n (λ j i y. refl) k l refl (λ y. refuted y x)))) (passes (p k))
 
 -- numbers below m that pass p go by f to different numbers below n that pass q: no more of the first than of the second
 pub count-into : (p : ℕ → Bool) (f : ℕ → ℕ) (n m : ℕ) (q : ℕ → Bool) → ((k : ℕ) → k < m → So (p k) → (f k < n) × So (q (f k)))
@@ -235,7 +243,10 @@ count-into p f n (suc m) q into once =
     last : m < suc m
     last = omega arith
 
-    once′ : (j k : ℕ) → j < m → k < m → So (p j) → So (p k) → f j ≡ f k → j ≡ k
+    Once : Type 0
+    Once = (j k : ℕ) → j < m → k < m → So (p j) → So (p k) → f j ≡ f k → j ≡ k
+
+    once′ : Once
     once′ j k hj hk = once j k (omega arith) (omega arith)
 
     left : So (p m) → (k : ℕ) → k < m → So (p k) → (f k < n) × So (rest (f k))
@@ -243,9 +254,13 @@ count-into p f n (suc m) q into once =
         let a = into k (omega arith) y in
         (a .0, join (q (f k)) _ (a .1) (deny _ (to-no (λ e. omega (arith, once k m (omega arith) last y x (eqb-true (f k) (f m) e))))))
 
-    go : ((r : ℕ → Bool) → ((k : ℕ) → k < m → So (p k) → (f k < n) × So (r (f k))) → ((j k : ℕ) → j < m → k < m → So (p j) → So (p k) → f j ≡ f k → j ≡ k) → count p m ≤ count r n)
+    -- f m itself is not among the others
+    fewer : So (p m) → count rest n + 1 ≤ count q n
+    fewer x =
+        let a = into m last x in
+        count-more rest q n (λ k l y. both (q k) _ y .0) (f m) (a .0) (a .1) (λ y. refuted (eqb-self (f m)) (denied _ (both (q (f m)) _ y .1)))
+
+    go : ((r : ℕ → Bool) → ((k : ℕ) → k < m → So (p k) → (f k < n) × So (r (f k))) → Once → count p m ≤ count r n)
         → So (p m) ⊎ No (p m) → count p (suc m) ≤ count q n
     go rec (inr x) = omega (arith, count-suc p m, ap bit x, rec q (λ k l. into k (omega arith)) once′)
-    go rec (inl x) =
-        let a = into m last x in
-        omega (arith, count-suc p m, ap bit x, rec rest (left x) once′, count-more rest q n (λ k l y. both (q k) _ y .0) (f m) (a .0) (a .1) (λ y. refuted (eqb-self (f m)) (denied _ (both (q (f m)) _ y .1))))
+    go rec (inl x) = omega (arith, count-suc p m, ap bit x, rec rest (left x) once′, fewer x)

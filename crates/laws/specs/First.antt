@@ -8,7 +8,7 @@ use Prim.Native.Nat.{ℕ, suc, _≤_, _<_}
 use native.Mathlib.Omega.{arith}
 use lib.Dec.{ltb}
 use borrow.Author.Tests.{ltb-true, ltb-false, le-ltb}
-use Rattle.laws.specs.Tests.{No, passes, refuted, to-no}
+use Rattle.laws.specs.Tests.{No, refuted, to-no}
 use Rattle.laws.specs.Walk.{over-ind, below-suc}
 use Rattle.laws.specs.Order.{Ranks, strict-one-way}
 use Rattle.laws.specs.Least.{least, sooner, Below}
@@ -122,7 +122,8 @@ module _ (before : ℕ → ℕ → Bool) (w : Ranks before) where
       go false false false x y z = (j, refl, ahead-self j, inr (x, ltb-false k j z), inl refl)
 
   -- the first of a whole of two parts
-  module _ (p q s : ℕ → Bool) (n : ℕ) (left : (j : ℕ) → j < n → So (p j) → So (s j)) (right : (j : ℕ) → j < n → So (q j) → So (s j)) (parts : (j : ℕ) → j < n → So (s j) → So (p j) ⊎ So (q j)) where
+  module _ (p q s : ℕ → Bool) (n : ℕ) (left : (j : ℕ) → j < n → So (p j) → So (s j)) (right : (j : ℕ) → j < n → So (q j) → So (s j))
+      (parts : (j : ℕ) → j < n → So (s j) → So (p j) ⊎ So (q j)) where
     pub first-join : (x y : Found) → First p before n x → First q before n y → First s before n (firstFound before x y)
     first-join Nothing Nothing h g = λ j l v. ⊎-elim (λ u. h j l u) (λ u. g j l u) (parts j l v)
     first-join Nothing (At k) h g = (g .0, right k (g .0) (g .1), λ j l v. ⊎-elim (λ u. absurd (h j l u)) (λ u. g .2 j l u) (parts j l v))
@@ -136,8 +137,8 @@ module _ (before : ℕ → ℕ → Bool) (w : Ranks before) where
         )
 
 -- tests that agree below n, with orders that agree on what passes, have the same first
-pub first-alike : (p q : ℕ → Bool) (before after : ℕ → ℕ → Bool) (n : ℕ) → ((k : ℕ) → k < n → p k ≡ q k) → ((j k : ℕ) → j < n → k < n → So (q j) → So (q k) → before j k ≡ after j k)
-    → (x : Found) → First p before n x → First q after n x
+pub first-alike : (p q : ℕ → Bool) (before after : ℕ → ℕ → Bool) (n : ℕ) → ((k : ℕ) → k < n → p k ≡ q k)
+    → ((j k : ℕ) → j < n → k < n → So (q j) → So (q k) → before j k ≡ after j k) → (x : Found) → First p before n x → First q after n x
 first-alike p q before after n e o (At k) h =
     let here : So (q k) = sym (e k (h .0)) ∙ h .1 in (
       h .0,

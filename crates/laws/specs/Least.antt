@@ -150,7 +150,8 @@ least-alike p q before after (suc n) h g =
     step false e Nothing l s = refl
 
 -- tests that agree below n find the same
-pub least-same : (p q : ℕ → Bool) (before after : ℕ → ℕ → Bool) (n : ℕ) → ((k : ℕ) → k < n → p k ≡ q k) → ((j k : ℕ) → j < n → k < n → before j k ≡ after j k) → least p before n ≡ least q after n
+pub least-same : (p q : ℕ → Bool) (before after : ℕ → ℕ → Bool) (n : ℕ) → ((k : ℕ) → k < n → p k ≡ q k)
+    → ((j k : ℕ) → j < n → k < n → before j k ≡ after j k) → least p before n ≡ least q after n
 least-same p q before after n h g = least-alike p q before after n h (λ j k i l x y. g j k i l)
 
 -- the lowest number that passes
@@ -187,16 +188,21 @@ module _ (p : ℕ → Bool) where
       rw s at (kept (i + 1) (n - (i + 1)) i (omega arith) q)
 
 -- one that passes with the largest key of those that do, or none passes
-pub largest : (p : ℕ → Bool) (key : ℕ → ℕ) (n : ℕ) → ((k : ℕ) × (k < n) × So (p k) × ((j : ℕ) → j < n → So (p j) → key j ≤ key k)) ⊎ ((k : ℕ) → k < n → So (p k) → ⊥)
-largest p key n = go (least p (λ i j. ltb (key j) (key i)) n) (least-is p (λ i j. ltb (key j) (key i)) (strict-on (λ i j. ltb j i) (strict-back ltb ltb-strict) key) n)
+pub largest : (p : ℕ → Bool) (key : ℕ → ℕ) (n : ℕ)
+    → ((k : ℕ) × (k < n) × So (p k) × ((j : ℕ) → j < n → So (p j) → key j ≤ key k)) ⊎ ((k : ℕ) → k < n → So (p k) → ⊥)
+largest p key n = go (least p higher n) (least-is p higher (strict-on (λ i j. ltb j i) (strict-back ltb ltb-strict) key) n)
   where
-    go : (x : Found) → Least p (λ i j. ltb (key j) (key i)) n x
+    higher : ℕ → ℕ → Bool
+    higher i j = ltb (key j) (key i)
+
+    go : (x : Found) → Least p higher n x
         → ((k : ℕ) × (k < n) × So (p k) × ((j : ℕ) → j < n → So (p j) → key j ≤ key k)) ⊎ ((k : ℕ) → k < n → So (p k) → ⊥)
     go (At k) h = inl (k, h .0, h .1, λ j l x. ltb-false (key k) (key j) (h .2 j l x))
     go Nothing h = inr h
 
 -- each number below n that passes q is f of one below m that passes p: no more of the first than of the second
-pub count-onto : (p : ℕ → Bool) (f : ℕ → ℕ) (m : ℕ) (q : ℕ → Bool) (n : ℕ) → ((o : ℕ) → o < n → So (q o) → (k : ℕ) × (k < m) × So (p k) × (f k ≡ o)) → count q n ≤ count p m
+pub count-onto : (p : ℕ → Bool) (f : ℕ → ℕ) (m : ℕ) (q : ℕ → Bool) (n : ℕ)
+    → ((o : ℕ) → o < n → So (q o) → (k : ℕ) × (k < m) × So (p k) × (f k ≡ o)) → count q n ≤ count p m
 count-onto p f m q n from =
     count-into q (λ o. number (first o)) m n p (λ o l x. let s = is o l x in (s .0, s .1)) (λ o q ho hq x y e. sym (is o ho x .2) ∙ ap f e ∙ is q hq y .2)
   where

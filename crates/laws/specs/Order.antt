@@ -16,7 +16,8 @@ lower a b rest = ltb a b || eqb a b && rest
 
 pub lower→ : (a b : ℕ) (rest : Bool) → So (lower a b rest) → (a < b) ⊎ ((a ≡ b) × So rest)
 unfolding lower
-lower→ a b rest h = ⊎-elim (λ x. inl (ltb-true a b x)) (λ x. let y = both (eqb a b) rest x in inr (eqb-true a b (y .0), y .1)) (either (ltb a b) (eqb a b && rest) h)
+lower→ a b rest h =
+    ⊎-elim (λ x. inl (ltb-true a b x)) (λ x. let y = both (eqb a b) rest x in inr (eqb-true a b (y .0), y .1)) (either (ltb a b) (eqb a b && rest) h)
 
 pub →lower : (a b : ℕ) (rest : Bool) → a ≤ b → (a ≡ b → So rest) → So (lower a b rest)
 unfolding lower
@@ -38,10 +39,11 @@ module _ (a b : ℕ) (rest : Bool) where
 
 -- neither way lower: equal, and undecided by the rest
 pub lower-tie : (a b : ℕ) (r q : Bool) → No (lower a b r) → No (lower b a q) → (a ≡ b) × No r × No q
-lower-tie a b r q h k = (e, to-no (λ x. refuted (→lower a b r (omega (arith, e)) (λ z. x)) h), to-no (λ x. refuted (→lower b a q (omega (arith, e)) (λ z. x)) k))
+lower-tie a b r q h k =
+    (e, to-no (λ x. refuted (→lower a b r (omega (arith, e)) (λ z. x)) h), to-no (λ x. refuted (→lower b a q (omega (arith, e)) (λ z. x)) k))
   where
     from : (x y : ℕ) (s : Bool) → No (lower x y s) → y ≤ x
-    from x y s n = ⊎-elim (λ z. absurd (refuted (→lower x y s (omega (arith, ltb-true x y z)) (λ e. absurd (omega (arith, ltb-true x y z)))) n)) (λ z. ltb-false x y z) (passes (ltb x y))
+    from x y s n = ⊎-elim (λ z. absurd (refuted (lower-below x y s (ltb-true x y z)) n)) (λ z. ltb-false x y z) (passes (ltb x y))
 
     e : a ≡ b
     e = omega (arith, from a b r h, from b a q k)
@@ -67,8 +69,8 @@ lower-strict {A} f rest s = record { irreflexive = irr; transitive = tra }
     tra : (a b c : A) → So (lower (f a) (f b) (rest a b)) → So (lower (f b) (f c) (rest b c)) → So (lower (f a) (f c) (rest a c))
     tra a b c h k =
         ⊎-elim
-        (λ x. ⊎-elim (λ y. →lower _ _ _ (omega arith) (λ e. absurd (omega arith))) (λ y. →lower _ _ _ (omega arith) (λ e. absurd (omega arith))) (lower→ _ _ _ k))
-        (λ x. ⊎-elim (λ y. →lower _ _ _ (omega arith) (λ e. absurd (omega arith))) (λ y. →lower _ _ _ (omega arith) (λ e. s .transitive a b c (x .1) (y .1))) (lower→ _ _ _ k))
+        (λ x. lower-below _ _ _ (⊎-elim (λ y. omega arith) (λ y. omega (arith, y .0)) (lower→ _ _ _ k)))
+        (λ x. ⊎-elim (λ y. lower-below _ _ _ (omega (arith, x .0))) (λ y. lower-equal _ _ _ (x .0 ∙ y .0) ∙ s .transitive a b c (x .1) (y .1)) (lower→ _ _ _ k))
         (lower→ _ _ _ h)
 
 -- an order of things is one of whatever has such a thing
@@ -117,6 +119,13 @@ lower-ranks {A} f rest w = record { strict = lower-strict f rest (w .strict); be
 
 pub ranks-on : {A B : Type 0} (before : A → A → Bool) → Ranks before → (f : B → A) → Ranks {A = B} (λ i j. before (f i) (f j))
 ranks-on before w f = record { strict = strict-on before (w .strict) f; between = λ i j k. w .between (f i) (f j) (f k) }
+
+-- two numbers of which neither is lower are one
+pub neither-lower : (a b : ℕ) → (a < b → ⊥) → (b < a → ⊥) → a ≡ b
+neither-lower a b f g =
+    ⊎-elim (λ x. absurd (f (ltb-true a b x)))
+    (λ x. ⊎-elim (λ y. absurd (g (ltb-true b a y))) (λ y. omega (arith, ltb-false a b x, ltb-false b a y)) (passes (ltb b a)))
+    (passes (ltb a b))
 
 -- the number before one from 1 to n is below n
 pub pred-below : (w n : ℕ) → 1 ≤ w → w ≤ n → pred w < n
