@@ -1,16 +1,17 @@
 -- The order of cells as numbers: an age, by slot and then input, and a rank, by the reading of the output and then age. On the cells of a
 -- switch of up to 16 ports they say what `older` and `before` say.
 -- Assumes nothing.
-use mathlib.Core.Path.{_≡_}
+use mathlib.Core.Path.{_≡_, sym, ap, _∙_}
 use mathlib.Core.Logic.{⊎-elim}
 use mathlib.Core.Bool.{So}
 use mathlib.Core.List.{List}
 use Prim.Native.Nat.{ℕ, _+_, _*_, _≤_, _<_}
 use native.Mathlib.Omega.{arith}
 use lib.Dec.{ltb}
+use lib.ListN.{getD}
 use borrow.Author.Tests.{ltb-true, ltb-false, lt-ltb}
 use Rattle.laws.specs.Tests.{No, passes, refuted}
-use Rattle.laws.specs.Order.{lower→, →lower}
+use Rattle.laws.specs.Order.{lower→, →lower, lower-equal}
 use Rattle.rules.specs.declared.Cell.{Cell}
 use Rattle.rules.specs.Cells.{mostPorts, older, readingFor, before}
 
@@ -40,6 +41,11 @@ module _ (c d : Cell) (ic : c .input .0 < mostPorts) (id : d .input .0 < mostPor
 
   pub not-older→ : No (older c d) → age d ≤ age c
   not-older→ h = ⊎-elim (λ x. absurd (refuted (→older (ltb-true _ _ x)) h)) (λ x. ltb-false (age c) (age d) x) (passes (ltb (age c) (age d)))
+
+-- for one output, the cell that stands before is the older one
+pub before-older : (r : List ℕ) (c d : Cell) → c .output .0 ≡ d .output .0 → So (before r c d) → So (older c d)
+unfolding before readingFor
+before-older r c d e h = sym (lower-equal _ _ (older c d) (ap (λ (o : ℕ). getD r o 0) e)) ∙ h
 
 -- where the numbers r are the readings of the two outputs
 pub before→ : (rs : List ℕ) (r : ℕ → ℕ) (c d : Cell) → c .input .0 < mostPorts → d .input .0 < mostPorts → c .entered .0 < slotEnd → d .entered .0 < slotEnd

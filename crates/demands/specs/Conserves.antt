@@ -16,30 +16,37 @@ use Rattle.rules.specs.Cells.{mostPorts, nth, older}
 use Rattle.rules.specs.Phases.{isEmitted}
 use Rattle.ideal.specs.Cells.{→readyFor}
 use Rattle.ideal.specs.Fit.{Fit}
-use Rattle.ideal.specs.Exhale.{emitted→, emits}
+use Rattle.ideal.specs.Exhale.{emitted→, some-emitted}
 use Rattle.demands.specs.Ages.{age, older→, not-older→}
-use Rattle.demands.specs.Led.{Led}
+use Rattle.demands.specs.Led.{Leader, Led}
 
 module _ {n : ℕ} {t : Slot} {cs : List Cell} {key : Cell → ℕ} (f : Fit n t cs) (led : Led (length cs) key (nth cs)) where
-  -- a live cell has a ready one for its output with no higher key
-  lead : (j : ℕ) → j < length cs → 1 ≤ nth cs j .place → (d : ℕ) × (d < length cs) × (nth cs d .place ≡ 2) × (nth cs d .output .0 ≡ nth cs j .output .0) × (key (nth cs d) ≤ key (nth cs j))
-  lead j l w = ⊎-elim (λ y. (j, l, y, refl, omega arith)) (λ y. led .led j l (omega arith)) (eq-or-lt-of-le (f .each j l .place))
+  -- a live cell is led, by itself where it is ready
+  lead : (j : ℕ) → j < length cs → 1 ≤ nth cs j .place → Leader (length cs) key (nth cs) (nth cs j)
+  lead j l w =
+      ⊎-elim
+      (λ y. record { number = j; below = l; ready = y; output = refl; first = omega arith })
+      (λ y. led .led j l (omega arith))
+      (eq-or-lt-of-le (f .each j l .place))
 
   -- "whenever there are any cells in the switch destined to output o .., output o exhales some cell"
-  pub works : (j : ℕ) → j < length cs → 1 ≤ nth cs j .place → (k : ℕ) × (k < length cs) × So (isEmitted n cs k) × (nth cs k .output .0 ≡ nth cs j .output .0)
+  pub works : (j : ℕ) → j < length cs → 1 ≤ nth cs j .place
+      → (k : ℕ) × (k < length cs) × So (isEmitted n cs k) × (nth cs k .output .0 ≡ nth cs j .output .0)
   works j l w =
       let d = lead j l w in
-      let k = emits n cs (d .0) (d .1) (d .2) (rw (d .3) (f .each j l .output w)) in
-      (k .0, k .1, k .2, k .3 ∙ d .3)
+      let k = some-emitted n cs (d .number) (d .below) (d .ready) (rw (d .output) (f .each j l .output w)) in
+      (k .0, k .1, k .2, k .3 ∙ d .output)
 
 module _ {n : ℕ} {t : Slot} {cs : List Cell} (ports : n ≤ mostPorts) (f : Fit n t cs) (led : Led (length cs) age (nth cs)) where
   -- "there are no cells in the switch destined to output o that precede c"
-  pub orders : (k j : ℕ) → So (isEmitted n cs k) → j < length cs → 1 ≤ nth cs j .place → nth cs j .output .0 ≡ nth cs k .output .0 → No (older (nth cs j) (nth cs k))
+  pub orders : (k j : ℕ) → So (isEmitted n cs k) → j < length cs → 1 ≤ nth cs j .place → nth cs j .output .0 ≡ nth cs k .output .0
+      → No (older (nth cs j) (nth cs k))
   orders k j x l w o =
       let e = emitted→ n cs k x in
       let d = lead f led j l w in
-      let ik : nth cs k .input .0 < mostPorts = omega (arith, f .each k (e .0) .input (omega (arith, e .1))) in
+      let c : Cell = nth cs (d .number) in
+      let ik : nth cs k .input .0 < mostPorts = omega (arith, f .each k (e .below) .input (omega (arith, e .ready))) in
       let ij : nth cs j .input .0 < mostPorts = omega (arith, f .each j l .input w) in
-      let id : nth cs (d .0) .input .0 < mostPorts = omega (arith, f .each (d .0) (d .1) .input (omega (arith, d .2))) in
-      let a = not-older→ (nth cs (d .0)) (nth cs k) id ik (e .3 (d .0) (d .1) (→readyFor (nth cs k .output) (nth cs (d .0)) (d .2) (d .3 ∙ o))) in
-      to-no (λ h. omega (arith, d .4, a, older→ (nth cs j) (nth cs k) ij ik h))
+      let ic : c .input .0 < mostPorts = omega (arith, f .each (d .number) (d .below) .input (omega (arith, d .ready))) in
+      let a = not-older→ c (nth cs k) ic ik (e .first (d .number) (d .below) (→readyFor (nth cs k .output) c (d .ready) (d .output ∙ o))) in
+      to-no (λ h. omega (arith, d .first, a, older→ (nth cs j) (nth cs k) ij ik h))

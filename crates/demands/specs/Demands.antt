@@ -25,7 +25,7 @@ use Rattle.ideal.specs.Calls.{slot-meets, slot-told}
 use Rattle.ideal.specs.Only.{slot-moves, slot-leaves}
 use Rattle.ideal.specs.Runs as Runs
 use Rattle.ideal.specs.Totals.{fresh-total}
-use Rattle.demands.specs.States.{good}
+use Rattle.demands.specs.States.{by-age-ruled, good}
 use Rattle.demands.specs.Departs as Departs
 use Rattle.demands.specs.Needs.{origin, example}
 
@@ -79,7 +79,7 @@ pub record LeavesOnTime (least : ℕ) : Type 0 where
       So (runsSlot y d) → Leaves c (s + k) (y .numbers) (does y d .exhaled)
 
 pub leaves-on-time : LeavesOnTime 3
-leaves-on-time = record { leaves = λ start wanted fresh earlier fast. Departs.departs (run start (starts wanted ∷ earlier)) (good start wanted fresh earlier) fast }
+leaves-on-time = record { leaves = λ start wanted fresh earlier fast. Departs.departs (run start (starts wanted ∷ earlier)) (good by-age-ruled start wanted fresh earlier) fast }
 
 -- "So demand 3 needs its speedup."
 pub needs-speedup : LeavesOnTime 1 → ⊥
@@ -95,7 +95,7 @@ module _ (start : State) (wanted : Switch) (fresh : So (isAccepted start (starts
 
   -- the table is fit throughout, accepted and refused calls alike
   pub fit-throughout : So (fit (reached .numbers .ports) (reached .numbers .next) (cellsOf (reached .table)))
-  fit-throughout = →fit (reached .numbers .ports) (reached .numbers .next) (cellsOf (reached .table)) (good start wanted fresh calls .fits)
+  fit-throughout = →fit (reached .numbers .ports) (reached .numbers .next) (cellsOf (reached .table)) (good by-age-ruled start wanted fresh calls .fits)
 
   -- "Cells accepted since the fresh start, counted from the calls, equal cells emitted plus cells live."
   pub conserved : since brings 0 start (starts wanted ∷ calls) ≡ since emissions 0 start (starts wanted ∷ calls) + live (cellsOf (reached .table))
@@ -112,13 +112,13 @@ module _ (start : State) (wanted : Switch) (fresh : So (isAccepted start (starts
     -- "To be work-conserving, the switch must ensure that whenever there are any cells in the switch destined to output o at the beginning of an
     -- exhale phase b, output o exhales some cell during phase b." (report, 4.1)
     pub work-conserving : (k : ℕ) → k < length table → So (isLive (nth table k)) → So (emits shown (nth table k .output .0))
-    work-conserving k l w = Departs.work-conserving reached ls accepted (good start wanted fresh calls) fast k l (live→ _ w)
+    work-conserving k l w = Departs.slot-works reached ls accepted by-age-ruled (good by-age-ruled start wanted fresh calls) fast k l (live→ _ w)
 
     -- "To be order-conserving, the switch must ensure that whenever an output o exhales some cell c, there are no cells in the switch destined to
     -- output o that precede c according to the timestamp ordering." (report, 4.1)
     pub order-conserving : (o : ℕ) → o < reached .numbers .ports → So (emits shown o) → (k : ℕ) → k < length table → So (isLive (nth table k)) → nth table k .output .0 ≡ o
         → No (older (nth table k) (emitted shown o))
-    order-conserving o m e k l w q = Departs.order-conserving reached ls accepted (good start wanted fresh calls) fast o m e k l (live→ _ w) q
+    order-conserving o m e k l w q = Departs.slot-orders reached ls accepted (good by-age-ruled start wanted fresh calls) fast o m e k l (live→ _ w) q
 
 -- One principle for runs: what an accepted fresh start makes and every accepted slot keeps holds throughout, since a refused call changes nothing.
 pub throughout : (P : State → Type 0) → ((x : State) (w : Switch) → So (isAccepted x (starts w)) → P (does x (starts w) .after))

@@ -3,7 +3,7 @@
 -- Assumes nothing.
 use mathlib.Core.Path.{_≡_, refl, sym, subst, ap, _∙_}
 use mathlib.Core.Logic.{_⊎_, inl, inr, ⊎-elim}
-use mathlib.Core.Bool.{Bool, So}
+use mathlib.Core.Bool.{So}
 use mathlib.Core.List.{List}
 use Prim.Native.Nat.{ℕ, zero, suc, _+_, _≤_, _<_}
 use native.Mathlib.Omega.{arith}
@@ -15,19 +15,16 @@ use Rattle.rules.specs.declared.Switch.{Switch}
 use Rattle.rules.specs.declared.Slot.{Slot}
 use Rattle.rules.specs.declared.Cell.{Cell}
 use Rattle.rules.specs.Cells.{mostPorts, nth, sameInput, sameSlot}
-use Rattle.rules.specs.Phases.{isEmitted, moved, phases, exhale, exhaled}
-use Rattle.rules.specs.Model.{Match, same}
+use Rattle.rules.specs.Phases.{isEmitted, exhale, exhaled}
+use Rattle.rules.specs.Model.{same}
 use Rattle.rules.specs.Demands.{elders, emits, emitted, Leaves}
 use Rattle.ideal.specs.Cells.{→same}
 use Rattle.ideal.specs.Fit.{Fit, Stays, stays-refl}
-use Rattle.ideal.specs.Match.{match-is}
-use Rattle.ideal.specs.Phases.{length-moved, moved-stays, moved-free, phases-zero, phases-suc, phases-fit}
 use Rattle.ideal.specs.Inhale.{Inhaled, inhaled-was}
-use Rattle.ideal.specs.Exhale.{emitted→, length-exhale, exhale-kept}
+use Rattle.ideal.specs.Exhale.{emitted→, length-exhale, exhale-kept, exhale-left}
 use Rattle.ideal.specs.Exhaled.{shown, shown→}
 use Rattle.demands.specs.Ages.{age}
 use Rattle.demands.specs.Led.{Led}
-use Rattle.demands.specs.Steps.{still}
 use Rattle.demands.specs.Elders.{Holds, elders-hold, stays-same, stays-on, leaves-now, stays-behind, one-fewer}
 
 -- no live record has c's slot and input
@@ -57,20 +54,6 @@ inhale-holds {cs = cs} h f =
       new = λ k l z w. ⊎-elim (λ y. absurd (omega (arith, y .0))) (λ y. omega (arith, y .1)) (inhaled-was h k l w);
     }
 
-moved-holds : {n : ℕ} {t : Slot} {cs : List Cell} {r : List ℕ} {m : ℕ → Bool} (b : ℕ) → Fit n t cs → Match r cs m → Holds b cs (moved m cs)
-moved-holds {cs = cs} {m = m} b f a =
-    record {
-      long = length-moved m cs;
-      stays = moved-stays f a;
-      new = λ k l z w. absurd (omega (arith, ap (λ (c : Cell). c .place) (moved-free f a k l z)));
-    }
-
-pub due-phases : {n : ℕ} {τ : Slot} {c : Cell} {s t : ℕ} {cs : List Cell} → Fit n τ cs → (r : List ℕ) → Due c s t cs → (j : ℕ) → Due c s t (phases n r cs j)
-due-phases {n} {cs = cs} f r d zero = rw (phases-zero n r cs) d
-due-phases {n} {c = c} {cs = cs} f r d (suc j) =
-    let g = phases-fit f r j in
-    rw (phases-suc n r cs j) (due-hold (moved-holds (suc (c .entered .0)) g (match-is g r)) (omega arith) (due-phases f r d j))
-
 -- At an exhale -----------------------------------------------------------------------------------
 
 module _ (w : Switch) {t : Slot} {cs : List Cell} (f : Fit (w .ports) t cs) (c : Cell) where
@@ -80,13 +63,13 @@ module _ (w : Switch) {t : Slot} {cs : List Cell} (f : Fit (w .ports) t cs) (c :
   unfolding sameInput sameSlot
   shows o l x i e =
       let k = shown→ (w .ports) cs o l x in
-      (k .0, k .1, k .2, k .3, ap (λ (d : Cell). d .entered .0) (sym (k .4)) ∙ eqb-true _ _ e, ap (λ (d : Cell). d .input .0) (sym (k .4)) ∙ eqb-true _ _ i, omega (arith, emitted→ (w .ports) cs (k .0) (k .2) .1))
+      (k .0, k .1, k .2, k .3, ap (λ (d : Cell). d .entered .0) (sym (k .4)) ∙ eqb-true _ _ e, ap (λ (d : Cell). d .input .0) (sym (k .4)) ∙ eqb-true _ _ i, omega (arith, emitted→ (w .ports) cs (k .0) (k .2) .ready))
 
   -- what is gone stays gone, and is not shown
   gone-exhale : (s : ℕ) → s < w .next .0 → Gone c cs → Leaves c s w (exhaled (w .ports) cs) × Due c s (suc (w .next .0)) (exhale (w .ports) cs)
   gone-exhale s late g = (
     record { then = λ e. absurd (omega arith); once = λ o l x i e. let k = shows o l x i e in absurd (g (k .0) (k .1) (k .6) (k .4) (k .5)) },
-    inr (omega arith, λ q l v e i. let m : q < length cs = omega (arith, length-exhale (w .ports) cs) in let k = still f q m v in g q m (rw (k .1) at v) (rw (k .1) at e) (rw (k .1) at i)),
+    inr (omega arith, λ q l v e i. let m : q < length cs = omega (arith, length-exhale (w .ports) cs) in let k = exhale-left (w .ports) cs q m v in g q m (rw (k .1) at v) (rw (k .1) at e) (rw (k .1) at i)),
   )
 
   module _ {q : ℕ} (l : q < length cs) (y : Stays c (nth cs q)) where
@@ -107,7 +90,7 @@ module _ (w : Switch) {t : Slot} {cs : List Cell} (f : Fit (w .ports) t cs) (c :
         gone : Gone c (exhale (w .ports) cs)
         gone k m v e i =
             let m′ : k < length cs = omega (arith, length-exhale (w .ports) cs) in
-            let b = still f k m′ v in
+            let b = exhale-left (w .ports) cs k m′ v in
             refuted x (subst (λ j. No (isEmitted (w .ports) cs j)) (mine k m′ (rw (b .1) at v) (rw (b .1) at e) (rw (b .1) at i)) (b .0))
 
     -- with some before it

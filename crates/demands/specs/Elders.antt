@@ -1,7 +1,7 @@
 -- The cells that stand before a cell, for its output: they stay while the table only takes in younger cells and moves some, and an exhale takes
 -- one of them, or the cell itself where there are none.
 -- Assumes nothing.
-use mathlib.Core.Path.{_≡_, refl, sym, subst, _∙_}
+use mathlib.Core.Path.{_≡_, sym, subst, _∙_}
 use mathlib.Core.Logic.{_⊎_, inl, inr, ⊎-elim}
 use mathlib.Core.Bool.{So}
 use mathlib.Core.List.{List}
@@ -18,12 +18,13 @@ use Rattle.rules.specs.declared.Cell.{Cell}
 use Rattle.rules.specs.Cells.{mostPorts, nth, sameOutput, older}
 use Rattle.rules.specs.Phases.{isEmitted, exhale}
 use Rattle.rules.specs.Demands.{isElder, elders}
-use Rattle.ideal.specs.Cells.{Same, live→, →live, older-same, older-tie}
+use Rattle.ideal.specs.Cells.{place≡, Same, same-self, live→, →live, older-same, older-tie}
 use Rattle.ideal.specs.Fit.{Fit, Stays}
-use Rattle.ideal.specs.Exhale.{emitted→, length-exhale}
+use Rattle.ideal.specs.Phases.{Readied, readied-stays, readied-free}
+use Rattle.ideal.specs.Exhale.{emitted→, length-exhale, exhale-left}
 use Rattle.demands.specs.Ages.{age}
 use Rattle.demands.specs.Led.{Led}
-use Rattle.demands.specs.Steps.{still, takes-one}
+use Rattle.demands.specs.Steps.{takes-one}
 use Rattle.demands.specs.Conserves.{works, orders}
 
 module _ (c d : Cell) where
@@ -42,9 +43,6 @@ module _ (c d : Cell) where
 
 pub stays-same : {c d : Cell} → Stays c d → Same d c
 stays-same s = record { input = s .input; output = s .output; entered = s .entered; tag = s .tag }
-
-same-self : (c : Cell) → Same c c
-same-self c = record { input = refl; output = refl; entered = refl; tag = refl }
 
 pub stays-on : {c d e : Cell} → Stays c d → Stays d e → Stays c e
 stays-on s q = record { was = s .was; lives = q .lives; top = q .top; input = q .input ∙ s .input; output = q .output ∙ s .output; entered = q .entered ∙ s .entered; tag = q .tag ∙ s .tag }
@@ -75,6 +73,14 @@ elders-hold {t} {cs} {us} h c early = rw (h .long) (count-same (λ k. isElder c 
         (λ w. let s = h .stays k l w in →elder c (nth cs k) w (sym (s .output) ∙ e .1) (sym (move k s) ∙ e .2))
         (eq-zero-or-pos (nth cs k .place))
 
+-- phases of any picking of waiting records
+pub readied-holds : {n : ℕ} {τ : Slot} {cs us : List Cell} (t : ℕ) → Fit n τ cs → Readied cs us → Holds t cs us
+readied-holds t f h = record {
+  long = h .long;
+  stays = λ k l w. readied-stays h k l (f .each k l) w;
+  new = λ k l z w. absurd (omega (arith, place≡ (readied-free h k l z)));
+}
+
 -- At an exhale -----------------------------------------------------------------------------------
 
 module _ {n : ℕ} {t : Slot} {cs : List Cell} (ports : n ≤ mostPorts) (f : Fit n t cs) (led : Led (length cs) age (nth cs)) {c : Cell} {q : ℕ} (l : q < length cs) (s : Stays c (nth cs q)) where
@@ -85,7 +91,7 @@ module _ {n : ℕ} {t : Slot} {cs : List Cell} (ports : n ≤ mostPorts) (f : Fi
   front : So (isEmitted n cs q) ⊎ ((k : ℕ) × (k < length cs) × So (isEmitted n cs k) × So (isElder c (nth cs k)))
   front =
       let k = works f led q l (s .lives) in
-      let w : 1 ≤ nth cs (k .0) .place = omega (arith, emitted→ n cs (k .0) (k .2) .1) in
+      let w : 1 ≤ nth cs (k .0) .place = omega (arith, emitted→ n cs (k .0) (k .2) .ready) in
       ⊎-elim
       (λ h. inr (k .0, k .1, k .2, →elder c (nth cs (k .0)) w (k .3 ∙ s .output) (sym (as-c (nth cs (k .0))) ∙ h)))
       (λ h. let e = older-tie (nth cs (k .0)) (nth cs q) h (orders ports f led (k .0) q (k .2) l (s .lives) (sym (k .3))) in inl (subst (λ j. So (isEmitted n cs j)) (f .apart (k .0) q (k .1) l w (s .lives) (e .0) (e .1)) (k .2)))
@@ -120,7 +126,7 @@ module _ {n : ℕ} {t : Slot} {cs : List Cell} (ports : n ≤ mostPorts) (f : Fi
         ))
       where
         left : (j : ℕ) → j < length cs → So (isElder c (nth (exhale n cs) j)) → No (isEmitted n cs j) × (nth (exhale n cs) j ≡ nth cs j)
-        left j i y = still f j i (elder→ c (nth (exhale n cs) j) y .0)
+        left j i y = exhale-left n cs j i (elder→ c (nth (exhale n cs) j) y .0)
 
         sub : (j : ℕ) → j < length cs → So (isElder c (nth (exhale n cs) j)) → So (isElder c (nth cs j))
         sub j i y = rw (left j i y .1) at y

@@ -1,9 +1,11 @@
 pub mod Ages
+pub mod Policy
 pub mod Ahead
 pub mod Turn
 pub mod Phase
 pub mod Led
 pub mod Steps
+pub mod Slots
 pub mod States
 pub mod Conserves
 pub mod Elders

@@ -1,5 +1,5 @@
 -- A transfer phase: at most one cell moves to an output, and each waiting cell that is left has a moved one before it. It gains 1 of the
--- invariant's slack. By age: key is the age, v is 2. Busy outputs: key is 0, v is 1.
+-- invariant's slack.
 -- Assumes nothing.
 use mathlib.Core.Path.{_≡_, refl, subst₂, ap}
 use mathlib.Core.Logic.{_⊎_, inl, inr, ⊎-elim}
@@ -14,20 +14,9 @@ use Rattle.laws.specs.Count.{count, count-either, count-none, count-one, count-
 use Rattle.rules.specs.declared.Cell.{Cell}
 use Rattle.rules.specs.Cells.{outputOf, placed, isReadyFor}
 use Rattle.ideal.specs.Cells.{readyFor→, →readyFor}
-use Rattle.demands.specs.Ages.{age, rank}
-use Rattle.demands.specs.Ahead.{held, ahead, ahead→, →ahead, younger, younger→, Slack}
-
--- what the two policies share: where keys differ at all, v is 2
-pub record Policy (key : Cell → ℕ) (v : ℕ) : Type 0 where
-  pub one : 1 ≤ v
-  pub two : (c d : Cell) → key c < key d → 2 ≤ v
-  pub later : (c d : Cell) → age c ≤ age d → key c ≤ key d
-
-pub by-age : Policy age 2
-by-age = record { one = omega arith; two = λ c d h. omega arith; later = λ c d h. h }
-
-pub busy : Policy (λ c. 0) 1
-busy = record { one = omega arith; two = λ c d h. omega arith; later = λ c d h. omega arith }
+use Rattle.demands.specs.Ages.{rank}
+use Rattle.demands.specs.Policy.{Weighs}
+use Rattle.demands.specs.Ahead.{readyIn, isAhead, ahead→, →ahead, isYounger, younger→, Slack}
 
 -- the cells of m move from t to u
 pub record Phase (n : ℕ) (key : Cell → ℕ) (r : ℕ → ℕ) (m : ℕ → Bool) (t u : ℕ → Cell) : Type 0 where
@@ -40,12 +29,12 @@ pub record Phase (n : ℕ) (key : Cell → ℕ) (r : ℕ → ℕ) (m : ℕ → B
       × ((((t d) .input .0 ≡ (t k) .input .0) × (rank r (t d) ≤ rank r (t k))) ⊎ (((t d) .output .0 ≡ (t k) .output .0) × (key (t d) ≤ key (t k))))
 
 module _ {n : ℕ} {key : Cell → ℕ} {v : ℕ} {r : ℕ → ℕ} {m : ℕ → Bool} {t u : ℕ → Cell} {a b : ℕ}
-    (law : Policy key v) (p : Phase n key r m t u) (inv : Slack n key v r t a b) where
+    (law : Weighs key v) (p : Phase n key r m t u) (inv : Slack n key v r t a b) where
   unmoved : (k : ℕ) → k < n → (u k) .place ≡ 1 → No (m k)
   unmoved k i w = ⊎-elim (λ x. absurd (omega (arith, ap (λ (c : Cell). c .place) (p .moved k i x)))) (λ x. x) (passes (m k))
 
   -- the cells that are left
-  stay : (y : Cell) (k : ℕ) → k < n → So (ahead r y (u k)) → So (ahead r y (t k))
+  stay : (y : Cell) (k : ℕ) → k < n → So (isAhead r y (u k)) → So (isAhead r y (t k))
   stay y k i x = rw (p .kept k i (unmoved k i (ahead→ r y (u k) x .0))) at x
 
   -- the cells that were ready
@@ -53,13 +42,13 @@ module _ {n : ℕ} {key : Cell → ℕ} {v : ℕ} {r : ℕ → ℕ} {m : ℕ →
   grow o k i x = ⊎-elim (λ y. absurd (omega (arith, p .waits k i y, readyFor→ (outputOf o) (t k) x .0))) (λ y. rw (p .kept k i y) x) (passes (m k))
 
   -- what became younger than f has moved to its output
-  enter : (f : Cell) (k : ℕ) → k < n → So (younger key f (u k)) → So (younger key f (t k)) ⊎ (So (m k) × ((t k) .output .0 ≡ f .output .0) × (key f < key (t k)))
+  enter : (f : Cell) (k : ℕ) → k < n → So (isYounger key f (u k)) → So (isYounger key f (t k)) ⊎ (So (m k) × ((t k) .output .0 ≡ f .output .0) × (key f < key (t k)))
   enter f k i x = ⊎-elim (λ y. inr (go y)) (λ y. inl (rw (p .kept k i y) at x)) (passes (m k))
     where
       go : So (m k) → So (m k) × ((t k) .output .0 ≡ f .output .0) × (key f < key (t k))
       go y = let h = younger→ key f (placed 2 (t k)) (rw (p .moved k i y) at x) in (y, h .1, omega (arith, law .later (placed 2 (t k)) (t k) (omega arith)))
 
-  one-more : (f : Cell) → count (λ k. younger key f (u k)) n + 1 ≤ count (λ k. younger key f (t k)) n + v
+  one-more : (f : Cell) → count (λ k. isYounger key f (u k)) n + 1 ≤ count (λ k. isYounger key f (t k)) n + v
   one-more f =
       ⊎-elim
       (λ y. omega (arith, law .two f (u (y .0)) (younger→ key f (u (y .0)) (y .2) .2), count-either Y Y′ M n λ k i x. ⊎-elim (λ z. inl z) (λ z. inr (join _ _ (z .0) (eq-eqb _ _ (z .1)))) (enter f k i x), count-one M n single))
@@ -67,10 +56,10 @@ module _ {n : ℕ} {key : Cell → ℕ} {v : ℕ} {r : ℕ → ℕ} {m : ℕ →
       (find Y n)
     where
       Y : ℕ → Bool
-      Y k = younger key f (u k)
+      Y k = isYounger key f (u k)
 
       Y′ : ℕ → Bool
-      Y′ k = younger key f (t k)
+      Y′ k = isYounger key f (t k)
 
       M : ℕ → Bool
       M k = m k && eqb ((t k) .output .0) (f .output .0)
@@ -81,12 +70,12 @@ module _ {n : ℕ} {key : Cell → ℕ} {v : ℕ} {r : ℕ → ℕ} {m : ℕ →
           let y′ = both _ _ y in
           p .outputs j k hj hk (x′ .0) (y′ .0) (omega (arith, eqb-true))
 
-  module _ (f l : ℕ) (hf : f < n) (hl : l < n) (nf : No (m f)) (nl : No (m l)) (wl : (t l) .place ≡ 1) (hfl : So (ahead r (t l) (t f))) where
+  module _ (f l : ℕ) (hf : f < n) (hl : l < n) (nf : No (m f)) (nl : No (m l)) (wl : (t l) .place ≡ 1) (hfl : So (isAhead r (t l) (t f))) where
     abbrev Goal : Type 0
-    Goal = count (λ k. younger key (t f) (u k)) n + v * count (λ k. ahead r (t l) (u k)) n + suc a ≤ held n u ((t l) .output .0) + b
+    Goal = count (λ k. isYounger key (t f) (u k)) n + v * count (λ k. isAhead r (t l) (u k)) n + suc a ≤ readyIn n u ((t l) .output .0) + b
 
     abbrev gone : ℕ → Bool
-    gone k = m k && ahead r (t l) (t k)
+    gone k = m k && isAhead r (t l) (t k)
 
     abbrev O : ℕ
     O = (t l) .output .0
@@ -96,7 +85,7 @@ module _ {n : ℕ} {key : Cell → ℕ} {v : ℕ} {r : ℕ → ℕ} {m : ℕ →
     from-input x =
         let d = x .0 in
         let g = both _ _ (x .2) in
-        let left = count-more (λ k. ahead r (t l) (u k)) (λ k. ahead r (t l) (t k)) n (stay (t l)) d (x .1) (g .1) (λ z. refuted (g .0) (unmoved d (x .1) (ahead→ r (t l) (u d) z .0))) in
+        let left = count-more (λ k. isAhead r (t l) (u k)) (λ k. isAhead r (t l) (t k)) n (stay (t l)) d (x .1) (g .1) (λ z. refuted (g .0) (unmoved d (x .1) (ahead→ r (t l) (u d) z .0))) in
         omega (arith, inv .slack f l hf hl wl hfl, one-more (t f), mul-le-mul-left v left, count-mono (λ k. isReadyFor (outputOf O) (t k)) (λ k. isReadyFor (outputOf O) (u k)) n (grow O))
 
     -- none did: then what is before l or f is a moved cell for its own output
@@ -104,7 +93,7 @@ module _ {n : ℕ} {key : Cell → ℕ} {v : ℕ} {r : ℕ → ℕ} {m : ℕ →
       abbrev Exit : ℕ → Type 0
       Exit k = (d : ℕ) × (d < n) × So (m d) × ((t d) .output .0 ≡ (t k) .output .0) × (key (t d) ≤ key (t k))
 
-      exit : (k : ℕ) → k < n → So (ahead r (t l) (t k)) → No (m k) → Exit k
+      exit : (k : ℕ) → k < n → So (isAhead r (t l) (t k)) → No (m k) → Exit k
       exit k i x y =
           let a = ahead→ r (t l) (t k) x in
           let q = p .blocked k i (a .0) y in
@@ -113,7 +102,7 @@ module _ {n : ℕ} {key : Cell → ℕ} {v : ℕ} {r : ℕ → ℕ} {m : ℕ →
           (λ z. (q .0, q .1, q .2, z .0, z .1))
           (q .3)
 
-      old : Exit f → (k : ℕ) → k < n → So (younger key (t f) (u k)) → So (younger key (t f) (t k))
+      old : Exit f → (k : ℕ) → k < n → So (isYounger key (t f) (u k)) → So (isYounger key (t f) (t k))
       old q k i x = ⊎-elim (λ z. z) (λ z. absurd (omega (arith, ap (λ j. key (t j)) (p .outputs k (q .0) i (q .1) (z .0) (q .2) (omega arith))))) (enter (t f) k i x)
 
       from-output : Goal
@@ -121,20 +110,20 @@ module _ {n : ℕ} {key : Cell → ℕ} {v : ℕ} {r : ℕ → ℕ} {m : ℕ →
           let bl = exit l hl (→ahead r (t l) (t l) wl refl (omega arith)) nl in
           let bf = exit f hf hfl nf in
           let more = count-more (λ k. isReadyFor (outputOf O) (t k)) (λ k. isReadyFor (outputOf O) (u k)) n (grow O) (bl .0) (bl .1) (rw (p .moved (bl .0) (bl .1) (bl .2)) (→readyFor (outputOf O) (placed 2 (t (bl .0))) refl (bl .3))) (λ z. omega (arith, readyFor→ (outputOf O) (t (bl .0)) z .0, p .waits (bl .0) (bl .1) (bl .2))) in
-          let left = count-mono (λ k. ahead r (t l) (u k)) (λ k. ahead r (t l) (t k)) n (stay (t l)) in
-          omega (arith, inv .slack f l hf hl wl hfl, more, mul-le-mul-left v left, count-mono (λ k. younger key (t f) (u k)) (λ k. younger key (t f) (t k)) n (old bf))
+          let left = count-mono (λ k. isAhead r (t l) (u k)) (λ k. isAhead r (t l) (t k)) n (stay (t l)) in
+          omega (arith, inv .slack f l hf hl wl hfl, more, mul-le-mul-left v left, count-mono (λ k. isYounger key (t f) (u k)) (λ k. isYounger key (t f) (t k)) n (old bf))
 
     gains : Goal
     gains = ⊎-elim from-input from-output (find gone n)
 
-  pub phase : Slack n key v r u (suc a) b
-  phase = record { slack = each }
+  pub phase-gains : Slack n key v r u (suc a) b
+  phase-gains = record { slack = each }
     where
-      each : (f l : ℕ) → f < n → l < n → (u l) .place ≡ 1 → So (ahead r (u l) (u f))
-          → count (λ k. younger key (u f) (u k)) n + v * count (λ k. ahead r (u l) (u k)) n + suc a ≤ held n u ((u l) .output .0) + b
+      each : (f l : ℕ) → f < n → l < n → (u l) .place ≡ 1 → So (isAhead r (u l) (u f))
+          → count (λ k. isYounger key (u f) (u k)) n + v * count (λ k. isAhead r (u l) (u k)) n + suc a ≤ readyIn n u ((u l) .output .0) + b
       each f l hf hl wl hfl =
           let nf = unmoved f hf (ahead→ r (u l) (u f) hfl .0) in
           let nl = unmoved l hl wl in
           let ef : u f ≡ t f = p .kept f hf nf in
           let el : u l ≡ t l = p .kept l hl nl in
-          rw (ef, el) (gains f l hf hl nf nl (rw el at wl) (subst₂ (λ x y. So (ahead r x y)) el ef hfl))
+          rw (ef, el) (gains f l hf hl nf nl (rw el at wl) (subst₂ (λ x y. So (isAhead r x y)) el ef hfl))

@@ -18,17 +18,17 @@ use Rattle.rules.specs.declared.Slot.{Slot}
 use Rattle.rules.specs.declared.Cell.{Cell}
 use Rattle.rules.specs.Cells.{mostPorts, slotOf, outputOf, nth, isReadyFor, readingFor, before}
 use Rattle.rules.specs.Phases.{readyCount, readings, moved, isEmitted, exhale}
-use Rattle.rules.specs.Model.{Match}
-use Rattle.ideal.specs.Cells.{waiting→, →waiting, readyFor→, conflict→, by-output}
+use Rattle.ideal.specs.Cells.{waiting→, readyFor→}
 use Rattle.ideal.specs.Fit.{Fit}
-use Rattle.ideal.specs.Phases.{moved-yes, moved-no}
+use Rattle.ideal.specs.Phases.{moved-yes, moved-no, Picks}
 use Rattle.ideal.specs.Inhale.{Inhaled, inhaled-was}
-use Rattle.ideal.specs.Exhale.{exhale-freed, exhale-kept}
+use Rattle.ideal.specs.Exhale.{exhale-kept, exhale-left}
 use Rattle.ideal.specs.Meets.{one-each}
 use Rattle.demands.specs.Ages.{age, slotEnd, reach, rank, before→}
-use Rattle.demands.specs.Ahead.{held}
+use Rattle.demands.specs.Ahead.{readyIn}
 use Rattle.demands.specs.Turn.{comes, comes→, Turn}
-use Rattle.demands.specs.Phase.{Policy, Phase}
+use Rattle.demands.specs.Phase.{Phase}
+use Rattle.demands.specs.Policy.{Weighs, Advances}
 
 -- on a fit table, ages are below the reach
 pub bounded : {n : ℕ} {t : Slot} {cs : List Cell} → Fit n t cs → n ≤ mostPorts → t .0 ≤ slotEnd → (k : ℕ) → k < length cs → 1 ≤ nth cs k .place → age (nth cs k) < reach
@@ -45,7 +45,7 @@ module _ {n : ℕ} {t : Slot} {arrivals : List ℕ} {cs us : List Cell} (h : Inh
   was-ready : (k : ℕ) → k < length cs → nth us k .place ≡ 2 → (1 ≤ nth cs k .place) × (nth us k ≡ nth cs k)
   was-ready k l w = ⊎-elim (λ y. y) (λ y. absurd (omega (arith, y .2))) (inhaled-was h k l (omega arith))
 
-  pub inhale-turn : {key : Cell → ℕ} {v : ℕ} → Policy key v → n ≤ mostPorts → t .0 < slotEnd → Fit n t cs → Fit n (slotOf (suc (t .0))) us → Turn (length cs) key (nth cs) (nth us) 1 0
+  pub inhale-turn : {key : Cell → ℕ} {v : ℕ} → Weighs key v → n ≤ mostPorts → t .0 < slotEnd → Fit n t cs → Fit n (slotOf (suc (t .0))) us → Turn (length cs) key (nth cs) (nth us) 1 0
   inhale-turn law ports clock f g =
       record {
         stays = λ k l w w′. h .old k l (omega arith);
@@ -72,14 +72,15 @@ module _ {n : ℕ} {t : Slot} {arrivals : List ℕ} {cs us : List Cell} (h : Inh
 -- Phase ------------------------------------------------------------------------------------------
 
 -- the reading is the count
-pub reading-is : (cs : List Cell) (o : Output) → o .0 < mostPorts → readingFor (readings cs) o ≡ held (length cs) (nth cs) (o .0)
+pub reading-is : (cs : List Cell) (o : Output) → o .0 < mostPorts → readingFor (readings cs) o ≡ readyIn (length cs) (nth cs) (o .0)
 unfolding readingFor readings readyCount
 reading-is cs o l = getD-tabulate (λ o. readyCount cs (outputOf o)) mostPorts 0 (o .0) l
 
-module _ {n : ℕ} {t : Slot} {cs : List Cell} {rs : List ℕ} {m : ℕ → Bool} (r : ℕ → ℕ) (ports : n ≤ mostPorts) (clock : t .0 ≤ slotEnd) (f : Fit n t cs)
-    (read : (o : Output) → o .0 < mostPorts → readingFor rs o ≡ r (o .0)) (a : Match rs cs m) where
+module _ {n : ℕ} {t : Slot} {cs : List Cell} {key : Cell → ℕ} {rs : List ℕ} {m : ℕ → Bool} (r : ℕ → ℕ) (ports : n ≤ mostPorts) (clock : t .0 ≤ slotEnd)
+    (f : Fit n t cs) (read : (o : Output) → o .0 < mostPorts → readingFor rs o ≡ r (o .0)) (p : Picks cs m) (a : Advances key rs cs m) where
   -- what stands before a cell by the reading has the lower rank
-  ranked : (d k : ℕ) → d < length cs → k < length cs → nth cs d .place ≡ 1 → nth cs k .place ≡ 1 → So (before rs (nth cs d) (nth cs k)) → rank r (nth cs d) < rank r (nth cs k)
+  ranked : (d k : ℕ) → d < length cs → k < length cs → nth cs d .place ≡ 1 → nth cs k .place ≡ 1
+      → So (before rs (nth cs d) (nth cs k)) → rank r (nth cs d) < rank r (nth cs k)
   ranked d k hd hk wd wk h =
       let x = f .each d hd in
       let y = f .each k hk in
@@ -88,31 +89,22 @@ module _ {n : ℕ} {t : Slot} {cs : List Cell} {rs : List ℕ} {m : ℕ → Bool
       before→ rs r (nth cs d) (nth cs k) (omega (arith, x .input ld)) (omega (arith, y .input lk)) (omega (arith, x .entered ld)) (omega (arith, y .entered lk))
       (read (nth cs d .output) (omega (arith, x .output ld))) (read (nth cs k .output) (omega (arith, y .output lk))) h
 
-  blocked : (k : ℕ) → k < length cs → nth cs k .place ≡ 1 → No (m k)
-      → (d : ℕ) × (d < length cs) × So (m d)
-      × (((nth cs d .input .0 ≡ nth cs k .input .0) × (rank r (nth cs d) ≤ rank r (nth cs k))) ⊎ ((nth cs d .output .0 ≡ nth cs k .output .0) × (age (nth cs d) ≤ age (nth cs k))))
-  blocked k l w x =
-      let d = a .beaten k l (→waiting _ w) x in
-      let b = ranked (d .0) k (d .1) l (waiting→ _ (a .waits (d .0) (d .1) (d .2))) w (d .4) in
-      (d .0, d .1, d .2, ⊎-elim (λ e. inl (e, omega (arith, b))) (λ e. inr (e, omega (arith, b, ap r e))) (conflict→ (nth cs (d .0)) (nth cs k) (d .3)))
+  waits : (k : ℕ) → k < length cs → So (m k) → nth cs k .place ≡ 1
+  waits k l x = waiting→ _ (p .waits k l x)
 
-  pub match-phase : Phase (length cs) age r m (nth cs) (nth (moved m cs))
-  match-phase =
-      record {
-        waits = λ k l x. waiting→ _ (a .waits k l x);
-        moved = moved-yes m cs;
-        kept = moved-no m cs;
-        outputs = λ j k hj hk x y e. a .apart j k hj hk x y (by-output (nth cs j) (nth cs k) e);
-        blocked = blocked;
-      }
+  blocked : (k : ℕ) → k < length cs → nth cs k .place ≡ 1 → No (m k) → (d : ℕ) × (d < length cs) × So (m d)
+      × (((nth cs d .input .0 ≡ nth cs k .input .0) × (rank r (nth cs d) ≤ rank r (nth cs k)))
+      ⊎ ((nth cs d .output .0 ≡ nth cs k .output .0) × (key (nth cs d) ≤ key (nth cs k))))
+  blocked k l w x =
+      let d = a .blocked k l w x in
+      (d .0, d .1, d .2, ⊎-elim (λ e. inl (e .0, omega (arith, ranked (d .0) k (d .1) l (waits (d .0) (d .1) (d .2)) w (e .1)))) (λ e. inr e) (d .3))
+
+  pub advance-phase : Phase (length cs) key r m (nth cs) (nth (moved m cs))
+  advance-phase = record { waits = waits; moved = moved-yes m cs; kept = moved-no m cs; outputs = a .outputs; blocked = blocked }
 
 -- Exhale -----------------------------------------------------------------------------------------
 
 module _ {n : ℕ} {t : Slot} {cs : List Cell} (f : Fit n t cs) where
-  -- what is live after the exhale was not emitted
-  pub still : (k : ℕ) → k < length cs → 1 ≤ nth (exhale n cs) k .place → No (isEmitted n cs k) × (nth (exhale n cs) k ≡ nth cs k)
-  still k l w = ⊎-elim (λ y. absurd (omega (arith, ap (λ (c : Cell). c .place) (exhale-freed n cs k l y)))) (λ y. (y, exhale-kept n cs k l y)) (passes (isEmitted n cs k))
-
   -- of the cells for one output an exhale takes one at most
   pub takes-one : (p : Cell → Bool) (o : ℕ) → ((c : Cell) → So (p c) → c .output .0 ≡ o) → count (λ k. p (nth cs k)) (length cs) ≤ count (λ k. p (nth (exhale n cs) k)) (length cs) + 1
   takes-one p o own = omega (arith, count-either (λ k. p (nth cs k)) (λ k. p (nth (exhale n cs) k)) leaves (length cs) side, count-one leaves (length cs) single)
@@ -132,13 +124,13 @@ module _ {n : ℕ} {t : Slot} {cs : List Cell} (f : Fit n t cs) where
   pub exhale-turn : (key : Cell → ℕ) → n ≤ mostPorts → t .0 ≤ slotEnd → Turn (length cs) key (nth cs) (nth (exhale n cs)) 0 1
   exhale-turn key ports clock =
       record {
-        stays = λ k l w w′. still k l (omega arith) .1;
-        ready = λ k l w. still k l (omega arith) .1;
+        stays = λ k l w w′. exhale-left n cs k l (omega arith) .1;
+        ready = λ k l w. exhale-left n cs k l (omega arith) .1;
         fresh = λ i k j hk hj c w. absurd (none-come i k hk c);
         few = λ i. omega (arith, count-none (comes (nth cs) (nth (exhale n cs)) i) (length cs) (none-come i));
         loses = λ o. takes-one (isReadyFor (outputOf o)) o (λ c x. readyFor→ (outputOf o) c x .1);
-        bounded = λ k l w. let s = still k l (omega arith) .1 in rw s (bounded f ports clock k l (omega (arith, ap (λ (c : Cell). c .place) s)));
+        bounded = λ k l w. let s = exhale-left n cs k l (omega arith) .1 in rw s (bounded f ports clock k l (omega (arith, ap (λ (c : Cell). c .place) s)));
       }
     where
       none-come : (i k : ℕ) → k < length cs → So (comes (nth cs) (nth (exhale n cs)) i k) → ⊥
-      none-come i k l c = let a = comes→ (nth cs) (nth (exhale n cs)) i k c in a .0 (rw (still k l (omega (arith, a .1)) .1) at (a .1))
+      none-come i k l c = let a = comes→ (nth cs) (nth (exhale n cs)) i k c in a .0 (rw (exhale-left n cs k l (omega (arith, a .1)) .1) at (a .1))

@@ -14,7 +14,7 @@ use Rattle.laws.specs.Count.{count, count-either, count-none, count-mono}
 use Rattle.laws.specs.Least.{largest}
 use Rattle.rules.specs.declared.Cell.{Cell}
 use Rattle.demands.specs.Ages.{age, reach, rank}
-use Rattle.demands.specs.Ahead.{held, ahead, ahead→, →ahead, younger, younger→, Slack}
+use Rattle.demands.specs.Ahead.{readyIn, isAhead, ahead→, →ahead, isYounger, younger→, Slack}
 
 -- k waits at input i in u, and did not wait in t
 unfoldable pub comes : (ℕ → Cell) → (ℕ → Cell) → ℕ → ℕ → Bool
@@ -38,25 +38,25 @@ pub record Turn (n : ℕ) (key : Cell → ℕ) (t u : ℕ → Cell) (g e : ℕ) 
   pub ready : (k : ℕ) → k < n → (u k) .place ≡ 2 → u k ≡ t k
   pub fresh : (i k j : ℕ) → k < n → j < n → So (comes t u i k) → (u j) .place ≡ 2 → key (u j) ≤ key (u k)
   pub few : (i : ℕ) → count (comes t u i) n ≤ g
-  pub loses : (o : ℕ) → held n t o ≤ held n u o + e
+  pub loses : (o : ℕ) → readyIn n t o ≤ readyIn n u o + e
   pub bounded : (k : ℕ) → k < n → (u k) .place ≡ 1 → age (u k) < reach
 
 module _ {n : ℕ} {key : Cell → ℕ} {v : ℕ} {r : ℕ → ℕ} {t u : ℕ → Cell} {a b c g e : ℕ}
     (inv : Slack n key v r t a b) (m : Turn n key t u g e) (fits : e + b + v * g ≤ a + c) (fits′ : v * g ≤ c) where
-  module _ (f l : ℕ) (hf : f < n) (hl : l < n) (wl : (u l) .place ≡ 1) (hfl : So (ahead (held n u) (u l) (u f))) where
+  module _ (f l : ℕ) (hf : f < n) (hl : l < n) (wl : (u l) .place ≡ 1) (hfl : So (isAhead (readyIn n u) (u l) (u f))) where
     abbrev A : Cell → Bool
-    A x = ahead (held n u) (u l) x
+    A x = isAhead (readyIn n u) (u l) x
 
     abbrev old : ℕ → Bool
     old k = A (u k) && eqb ((t k) .place) 1
 
     abbrev Goal : Type 0
-    Goal = count (λ k. younger key (u f) (u k)) n + v * count (λ k. A (u k)) n + 0 ≤ held n u ((u l) .output .0) + c
+    Goal = count (λ k. isYounger key (u f) (u k)) n + v * count (λ k. A (u k)) n + 0 ≤ readyIn n u ((u l) .output .0) + c
 
     -- a cell of u that stands before l is an old one, or comes
     side : (k : ℕ) → k < n → So (A (u k)) → So (old k) ⊎ So (comes t u ((u l) .input .0) k)
     side k i x =
-        let h = ahead→ (held n u) (u l) (u k) x in
+        let h = ahead→ (readyIn n u) (u l) (u k) x in
         ⊎-elim (λ y. inl (join _ _ x y)) (λ y. inr (→comes t u ((u l) .input .0) k y (h .0) (h .1))) (passes (eqb ((t k) .place) 1))
 
     was : (k : ℕ) → k < n → So (old k) → So (A (u k)) × ((t k) .place ≡ 1) × (u k ≡ t k)
@@ -66,7 +66,7 @@ module _ {n : ℕ} {key : Cell → ℕ} {v : ℕ} {r : ℕ → ℕ} {t u : ℕ �
         (h .0, w, m .stays k i w (ahead→ _ _ _ (h .0) .0))
 
     -- nothing ready is younger than a cell that comes
-    none : So (comes t u ((u l) .input .0) f) → count (λ k. younger key (u f) (u k)) n ≡ 0
+    none : So (comes t u ((u l) .input .0) f) → count (λ k. isYounger key (u f) (u k)) n ≡ 0
     none x = count-none _ n λ k i y. let h = younger→ key (u f) (u k) y in omega (arith, m .fresh _ f k hf i x (h .0))
 
     -- only cells that come stand before l
@@ -78,24 +78,24 @@ module _ {n : ℕ} {key : Cell → ℕ} {v : ℕ} {r : ℕ → ℕ} {t u : ℕ �
 
     -- d is the last, by the old reading, of the old cells before l
     module _ (d : ℕ) (hd : d < n) (od : So (old d)) (last : (j : ℕ) → j < n → So (old j) → rank r (t j) ≤ rank r (t d)) where
-      ranked : (k : ℕ) → k < n → So (old k) → So (ahead r (t d) (t k))
+      ranked : (k : ℕ) → k < n → So (old k) → So (isAhead r (t d) (t k))
       ranked k i y =
           let p = was k i y in
           let w = was d hd od in
-          let h = ahead→ (held n u) (u l) (u k) (p .0) in
-          let h′ = ahead→ (held n u) (u l) (u d) (w .0) in
+          let h = ahead→ (readyIn n u) (u l) (u k) (p .0) in
+          let h′ = ahead→ (readyIn n u) (u l) (u d) (w .0) in
           →ahead r (t d) (t k) (p .1) (cc (w .2)) (last k i y)
 
-      many : count (λ k. A (u k)) n ≤ count (λ k. ahead r (t d) (t k)) n + g
-      many = omega (arith, m .few ((u l) .input .0), count-either (λ k. A (u k)) (λ k. ahead r (t d) (t k)) (comes t u ((u l) .input .0)) n λ k i y. ⊎-elim (λ z. inl (ranked k i z)) (λ z. inr z) (side k i y))
+      many : count (λ k. A (u k)) n ≤ count (λ k. isAhead r (t d) (t k)) n + g
+      many = omega (arith, m .few ((u l) .input .0), count-either (λ k. A (u k)) (λ k. isAhead r (t d) (t k)) (comes t u ((u l) .input .0)) n λ k i y. ⊎-elim (λ z. inl (ranked k i z)) (λ z. inr z) (side k i y))
 
-      lower : held n t ((t d) .output .0) ≤ held n u ((u l) .output .0) + e
-      lower = let w = was d hd od in omega (arith, m .loses ((t d) .output .0), ahead→ (held n u) (u l) (u d) (w .0) .2, m .bounded l hl wl, ap (λ (y : Cell). held n u (y .output .0)) (w .2))
+      lower : readyIn n t ((t d) .output .0) ≤ readyIn n u ((u l) .output .0) + e
+      lower = let w = was d hd od in omega (arith, m .loses ((t d) .output .0), ahead→ (readyIn n u) (u l) (u d) (w .0) .2, m .bounded l hl wl, ap (λ (y : Cell). readyIn n u (y .output .0)) (w .2))
 
-      lead : (j : ℕ) × (j < n) × So (ahead r (t d) (t j)) × (count (λ k. younger key (u f) (u k)) n ≤ count (λ k. younger key (t j) (t k)) n)
+      lead : (j : ℕ) × (j < n) × So (isAhead r (t d) (t j)) × (count (λ k. isYounger key (u f) (u k)) n ≤ count (λ k. isYounger key (t j) (t k)) n)
       lead =
           ⊎-elim
-          (λ y. (f, hf, ranked f hf y, count-mono _ _ n λ k i z. subst₂ (λ a b. So (younger key a b)) (was f hf y .2) (m .ready k i (younger→ key (u f) (u k) z .0)) z))
+          (λ y. (f, hf, ranked f hf y, count-mono _ _ n λ k i z. subst₂ (λ a b. So (isYounger key a b)) (was f hf y .2) (m .ready k i (younger→ key (u f) (u k) z .0)) z))
           (λ y. (d, hd, ranked d hd od, omega (arith, none y)))
           (side f hf hfl)
 
@@ -105,5 +105,5 @@ module _ {n : ℕ} {key : Cell → ℕ} {v : ℕ} {r : ℕ → ℕ} {t u : ℕ �
     each : Goal
     each = ⊎-elim (λ x. some-old (x .0) (x .1) (x .2) (x .3)) all-come (largest old (λ k. rank r (t k)) n)
 
-  pub turn : Slack n key v (held n u) u 0 c
+  pub turn : Slack n key v (readyIn n u) u 0 c
   turn = record { slack = each }

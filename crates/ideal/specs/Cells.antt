@@ -4,7 +4,7 @@ use mathlib.Core.Path.{_≡_, refl, sym, ap, ap₂, _∙_}
 use mathlib.Core.Logic.{_⊎_, inl, inr, ⊎-elim}
 use mathlib.Core.Bool.{Bool, So}
 use mathlib.Core.List.{List}
-use Prim.Native.Nat.{ℕ, _≤_, _<_}
+use Prim.Native.Nat.{ℕ, zero, suc, _≤_, _<_}
 use native.Mathlib.Omega.{arith}
 use lib.Dec.{ltb}
 use lib.ListN.{getD}
@@ -13,9 +13,25 @@ use Rattle.laws.specs.Tests.{No, passes, refuted, both, join, either, on-left, 
 use Rattle.laws.specs.Order.{Strict, Ranks, lower, lower-tie, lower-ranks, ltb-ranks, ranks-on}
 use Rattle.rules.specs.declared.Output.{Output}
 use Rattle.rules.specs.declared.Cell.{Cell}
-use Rattle.rules.specs.Cells.{isFree, isWaiting, isReady, isLive, isReadyFor, sameInput, sameOutput, sameSlot, sameEntry, older, readingFor, before, placed}
+use Rattle.rules.specs.Cells.{width, fields, isFree, isWaiting, isReady, isLive, isReadyFor, sameInput, sameOutput, sameSlot, sameEntry, older, readingFor, before, placed}
 use Rattle.rules.specs.Phases.{conflict}
 use Rattle.rules.specs.Model.{same}
+use Rattle.words.specs.Words.{cell-ext}
+
+-- Equal cells have equal fields -------------------------------------------------------------------
+
+module _ {c d : Cell} (e : c ≡ d) where
+  pub place≡ : c .place ≡ d .place
+  place≡ = ap (λ (x : Cell). x .place) e
+
+  pub input≡ : c .input .0 ≡ d .input .0
+  input≡ = ap (λ (x : Cell). x .input .0) e
+
+  pub output≡ : c .output .0 ≡ d .output .0
+  output≡ = ap (λ (x : Cell). x .output .0) e
+
+  pub entered≡ : c .entered .0 ≡ d .entered .0
+  entered≡ = ap (λ (x : Cell). x .entered .0) e
 
 -- Places -----------------------------------------------------------------------------------------
 
@@ -109,11 +125,28 @@ module _ (c d : Cell) where
   unfolding same sameInput sameOutput sameSlot
   →same s = join _ _ (join _ _ (join _ _ (eq-eqb _ _ (s .input)) (eq-eqb _ _ (s .output))) (eq-eqb _ _ (s .entered))) (eq-eqb _ _ (s .tag))
 
+-- with the same place too, they are equal
+pub same-cell : (c d : Cell) → c .place ≡ d .place → Same c d → c ≡ d
+same-cell c d p s = cell-ext c d field
+  where
+    field : (r : ℕ) → r < width → getD (fields c) r 0 ≡ getD (fields d) r 0
+    field zero l = p
+    field (suc zero) l = s .input
+    field (suc (suc zero)) l = s .output
+    field (suc (suc (suc zero))) l = s .entered
+    field (suc (suc (suc (suc zero)))) l = s .tag
+    field (suc (suc (suc (suc (suc r))))) l = absurd (omega arith)
+
+pub same-self : (c : Cell) → Same c c
+same-self c = record { input = refl; output = refl; entered = refl; tag = refl }
+
 pub same-refl : (c : Cell) → So (same c c)
-same-refl c = →same c c (record { input = refl; output = refl; entered = refl; tag = refl })
+same-refl c = →same c c (same-self c)
 
 pub same-sym : (c d : Cell) → So (same c d) → So (same d c)
-same-sym c d h = let s = same→ c d h in →same d c (record { input = sym (s .input); output = sym (s .output); entered = sym (s .entered); tag = sym (s .tag) })
+same-sym c d h =
+    let s = same→ c d h in
+    →same d c (record { input = sym (s .input); output = sym (s .output); entered = sym (s .entered); tag = sym (s .tag) })
 
 pub same-trans : (c d e : Cell) → So (same c d) → So (same d e) → So (same c e)
 same-trans c d e h k =
@@ -121,8 +154,12 @@ same-trans c d e h k =
     let q = same→ d e k in
     →same c e (record { input = s .input ∙ q .input; output = s .output ∙ q .output; entered = s .entered ∙ q .entered; tag = s .tag ∙ q .tag })
 
+-- at another place it is the same cell
+pub placed-same : (p : ℕ) (c : Cell) → Same (placed p c) c
+placed-same p c = record { input = refl; output = refl; entered = refl; tag = refl }
+
 pub same-placed : (p : ℕ) (c : Cell) → So (same (placed p c) c)
-same-placed p c = →same (placed p c) c (record { input = refl; output = refl; entered = refl; tag = refl })
+same-placed p c = →same (placed p c) c (placed-same p c)
 
 -- The orders -------------------------------------------------------------------------------------
 
@@ -154,12 +191,14 @@ before-same r c c′ d d′ s q =
 
 -- no cell stands before the same cell
 pub before-other : (r : List ℕ) (c d : Cell) → So (before r c d) → So (same c d) → ⊥
-before-other r c d h s = refuted h (before-same r c d d d (same→ c d s) (record { input = refl; output = refl; entered = refl; tag = refl }) ∙ before-strict r .irreflexive d)
+before-other r c d h s = refuted h (before-same r c d d d (same→ c d s) (same-self d) ∙ before-strict r .irreflexive d)
 
 -- two cells of which neither stands before the other have the same slot and the same input
 pub older-tie : (c d : Cell) → No (older c d) → No (older d c) → (c .entered .0 ≡ d .entered .0) × (c .input .0 ≡ d .input .0)
 unfolding older
-older-tie c d h k = let x = lower-tie _ _ _ _ h k in (x .0, omega (arith, ltb-false (c .input .0) (d .input .0) (x .1), ltb-false (d .input .0) (c .input .0) (x .2)))
+older-tie c d h k =
+    let x = lower-tie _ _ _ _ h k in
+    (x .0, omega (arith, ltb-false (c .input .0) (d .input .0) (x .1), ltb-false (d .input .0) (c .input .0) (x .2)))
 
 pub before-tie : (r : List ℕ) (c d : Cell) → No (before r c d) → No (before r d c) → (c .entered .0 ≡ d .entered .0) × (c .input .0 ≡ d .input .0)
 unfolding before

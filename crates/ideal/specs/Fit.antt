@@ -9,13 +9,14 @@ use native.Mathlib.Omega.{arith}
 use native.Mathlib.Nat.{eq-zero-or-pos}
 use lib.Dec.{ltb, leb}
 use lib.ListN.{length}
-use borrow.Author.Tests.{eqb-true, ltb-true, ltb-false, lt-ltb, leb-true, le-leb}
+use borrow.Author.Tests.{eqb-true, ltb-true, lt-ltb, leb-true, le-leb}
 use Rattle.laws.specs.Tests.{No, passes, refuted, to-no, both, join, denied, deny, cond-true, cond-false}
 use Rattle.laws.specs.Count.{every→, →every}
+use Rattle.laws.specs.Order.{neither-lower}
 use Rattle.rules.specs.declared.Slot.{Slot}
 use Rattle.rules.specs.declared.Cell.{Cell}
 use Rattle.rules.specs.Cells.{free, nth, isFree, isBlank, isSound, isAlone, sameEntry, fit, before}
-use Rattle.ideal.specs.Cells.{free→, →free, live→, →live, sameEntry→, →sameEntry, before-tie}
+use Rattle.ideal.specs.Cells.{place≡, same-cell, free→, →free, live→, →live, sameEntry→, →sameEntry, before-tie}
 
 -- a record by itself
 pub record Sound (n : ℕ) (t : Slot) (c : Cell) : Type 0 where
@@ -30,8 +31,18 @@ pub record Fit (n : ℕ) (t : Slot) (cs : List Cell) : Type 0 where
   pub apart : (j k : ℕ) → j < length cs → k < length cs → 1 ≤ nth cs j .place → 1 ≤ nth cs k .place
       → nth cs j .entered .0 ≡ nth cs k .entered .0 → nth cs j .input .0 ≡ nth cs k .input .0 → j ≡ k
 
+-- a free record asks for nothing else
+sound-blank : (n : ℕ) (t : Slot) (c : Cell) → c .place ≡ 0 → c ≡ free → Sound n t c
+sound-blank n t c z e = record {
+  place = omega arith;
+  blank = λ w. e;
+  input = λ w. absurd (omega arith);
+  output = λ w. absurd (omega arith);
+  entered = λ w. absurd (omega arith);
+}
+
 pub free-sound : (n : ℕ) (t : Slot) → Sound n t free
-free-sound n t = record { place = omega arith; blank = λ e. refl; input = λ w. absurd (omega arith); output = λ w. absurd (omega arith); entered = λ w. absurd (omega arith) }
+free-sound n t = sound-blank n t free refl refl
 
 module _ (n : ℕ) (t : Slot) (c : Cell) where
   blank→ : c .place ≡ 0 → So (isBlank c) → c ≡ free
@@ -40,16 +51,14 @@ module _ (n : ℕ) (t : Slot) (c : Cell) where
       let x = both _ _ h in
       let y = both _ _ (x .0) in
       let z = both _ _ (y .0) in
-      λ i. record { place = e i; input = record { 0 = eqb-true (c .input .0) 0 (z .0) i }; output = record { 0 = eqb-true (c .output .0) 0 (z .1) i }; entered = record { 0 = eqb-true (c .entered .0) 0 (y .1) i }; tag = eqb-true (c .tag) 0 (x .1) i }
+      same-cell c free e (record { input = eqb-true _ 0 (z .0); output = eqb-true _ 0 (z .1); entered = eqb-true _ 0 (y .1); tag = eqb-true _ 0 (x .1) })
 
   pub sound→ : So (isSound n t c) → Sound n t c
   unfolding isSound
   sound→ h = ⊎-elim (λ x. is-free x (cond-true (isFree c) _ _ x)) (λ x. is-live x (cond-false (isFree c) _ _ x)) (passes (isFree c))
     where
       is-free : So (isFree c) → isSound n t c ≡ isBlank c → Sound n t c
-      is-free x e =
-          let z = free→ c x in
-          record { place = omega arith; blank = λ w. blank→ z (sym e ∙ h); input = λ w. absurd (omega arith); output = λ w. absurd (omega arith); entered = λ w. absurd (omega arith) }
+      is-free x e = sound-blank n t c (free→ c x) (blank→ (free→ c x) (sym e ∙ h))
 
       is-live : No (isFree c) → isSound n t c ≡ (leb (c .place) 2 && ltb (c .input .0) n && ltb (c .output .0) n && ltb (c .entered .0) (t .0)) → Sound n t c
       is-live x e =
@@ -69,8 +78,12 @@ module _ (n : ℕ) (t : Slot) (c : Cell) where
   →sound s =
       ⊎-elim
       (λ x. cond-true (isFree c) _ _ x ∙ ap isBlank (s .blank (free→ c x)))
-      (λ x. let w : 1 ≤ c .place = ⊎-elim (λ z. absurd (refuted (→free c z) x)) (λ z. z) (eq-zero-or-pos (c .place)) in cond-false (isFree c) _ _ x ∙ join _ _ (join _ _ (join _ _ (le-leb _ _ (s .place)) (lt-ltb _ _ (s .input w))) (lt-ltb _ _ (s .output w))) (lt-ltb _ _ (s .entered w)))
+      (λ x. cond-false (isFree c) _ _ x ∙ is-live (⊎-elim (λ z. absurd (refuted (→free c z) x)) (λ z. z) (eq-zero-or-pos (c .place))))
       (passes (isFree c))
+    where
+      is-live : 1 ≤ c .place → So (leb (c .place) 2 && ltb (c .input .0) n && ltb (c .output .0) n && ltb (c .entered .0) (t .0))
+      is-live w =
+          join _ _ (join _ _ (join _ _ (le-leb _ _ (s .place)) (lt-ltb _ _ (s .input w))) (lt-ltb _ _ (s .output w))) (lt-ltb _ _ (s .entered w))
 
 module _ (n : ℕ) (t : Slot) (cs : List Cell) where
   pub fit→ : So (fit n t cs) → Fit n t cs
@@ -89,14 +102,16 @@ module _ (n : ℕ) (t : Slot) (cs : List Cell) where
 
       apart : (j k : ℕ) → j < length cs → k < length cs → 1 ≤ nth cs j .place → 1 ≤ nth cs k .place
           → nth cs j .entered .0 ≡ nth cs k .entered .0 → nth cs j .input .0 ≡ nth cs k .input .0 → j ≡ k
-      apart j k hj hk wj wk e i =
-          ⊎-elim (λ x. absurd (above j k (ltb-true j k x) hk wj wk e i))
-          (λ x. ⊎-elim (λ y. absurd (above k j (ltb-true k j y) hj wk wj (sym e) (sym i))) (λ y. omega (arith, ltb-false j k x, ltb-false k j y)) (passes (ltb k j)))
-          (passes (ltb j k))
+      apart j k hj hk wj wk e i = neither-lower j k (λ l. above j k l hk wj wk e i) (λ l. above k j l hj wk wj (sym e) (sym i))
 
   pub →fit : Fit n t cs → So (fit n t cs)
   unfolding fit isAlone
-  →fit f = →every _ (length cs) (λ k l. join _ _ (→sound n t (nth cs k) (f .each k l)) (→every _ k (λ j m. deny _ (to-no (λ x. let s = sameEntry→ (nth cs k) (nth cs j) x in omega (arith, f .apart k j l (omega arith) (live→ _ (s .0)) (live→ _ (s .1)) (s .2) (s .3)))))))
+  →fit f = →every _ (length cs) (λ k l. join _ _ (→sound n t (nth cs k) (f .each k l)) (→every _ k (λ j m. deny _ (to-no (alone k j l m)))))
+    where
+      alone : (k j : ℕ) → k < length cs → j < k → So (sameEntry (nth cs k) (nth cs j)) → ⊥
+      alone k j l m x =
+          let s = sameEntry→ (nth cs k) (nth cs j) x in
+          omega (arith, f .apart k j l (omega arith) (live→ _ (s .0)) (live→ _ (s .1)) (s .2) (s .3))
 
   -- no two different live cells of a fit table tie, for any reading
   pub untied : Fit n t cs → (r : List ℕ) (j k : ℕ) → j < length cs → k < length cs → 1 ≤ nth cs j .place → 1 ≤ nth cs k .place
@@ -123,8 +138,11 @@ stays-sound s f =
       entered = λ w. omega (arith, f .entered (s .was));
     }
 
+pub stays-itself : (c : Cell) → 1 ≤ c .place → c .place ≤ 2 → Stays c c
+stays-itself c w t = record { was = w; lives = w; top = t; input = refl; output = refl; entered = refl; tag = refl }
+
 pub stays-refl : {n : ℕ} {t : Slot} (c : Cell) → Sound n t c → 1 ≤ c .place → Stays c c
-stays-refl c s w = record { was = w; lives = w; top = s .place; input = refl; output = refl; entered = refl; tag = refl }
+stays-refl c s w = stays-itself c w (s .place)
 
 -- each record is free, or stays: then a table is fit where the one before it is
 pub fit-part : {n : ℕ} {t : Slot} {cs us : List Cell} → Fit n t cs → length us ≡ length cs
@@ -136,7 +154,7 @@ fit-part {n} {t} {cs} {us} f e h = record { each = λ k l. go k (omega arith) (h
     go k l (inr x) = stays-sound x (f .each k l)
 
     kept : (k : ℕ) → k < length cs → 1 ≤ nth us k .place → Stays (nth cs k) (nth us k)
-    kept k l w = ⊎-elim (λ x. absurd (omega (arith, ap (λ (c : Cell). c .place) x))) (λ x. x) (h k l)
+    kept k l w = ⊎-elim (λ x. absurd (omega (arith, place≡ x))) (λ x. x) (h k l)
 
     apart : (j k : ℕ) → j < length us → k < length us → 1 ≤ nth us j .place → 1 ≤ nth us k .place
         → nth us j .entered .0 ≡ nth us k .entered .0 → nth us j .input .0 ≡ nth us k .input .0 → j ≡ k

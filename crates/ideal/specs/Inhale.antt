@@ -24,14 +24,18 @@ use Rattle.rules.specs.declared.Cell.{Cell}
 use Rattle.rules.specs.Cells.{free, nth, slotOf, isFree, isLive}
 use Rattle.rules.specs.Answers.{firstWord, arrives, arriving, live}
 use Rattle.rules.specs.Phases.{lowestFree, arrival, storeAt, enter, inhale}
-use Rattle.ideal.specs.Cells.{free→, →free, live→, →live, not-live→}
+use Rattle.ideal.specs.Cells.{place≡, input≡, entered≡, free→, →free, live→, →live, not-live→}
 use Rattle.ideal.specs.Fit.{Sound, Fit}
+
+-- a record holds the cell that arrived at an input below i
+abbrev pub Came : Slot → List ℕ → ℕ → Cell → Type 0
+Came t arrivals i c = (j : ℕ) × (j < i) × So (arrives arrivals j) × (c ≡ arrival t arrivals j)
 
 -- what an inhale has made of cs at the inputs below i
 pub record Inhaled (t : Slot) (arrivals : List ℕ) (i : ℕ) (cs us : List Cell) : Type 0 where
   pub long : length us ≡ length cs
   pub old : (k : ℕ) → k < length cs → 1 ≤ nth cs k .place → nth us k ≡ nth cs k
-  pub new : (k : ℕ) → k < length cs → nth cs k .place ≡ 0 → (nth us k ≡ nth cs k) ⊎ ((j : ℕ) × (j < i) × So (arrives arrivals j) × (nth us k ≡ arrival t arrivals j))
+  pub new : (k : ℕ) → k < length cs → nth cs k .place ≡ 0 → (nth us k ≡ nth cs k) ⊎ Came t arrivals i (nth us k)
   pub came : (j : ℕ) → j < i → So (arrives arrivals j) → (k : ℕ) × (k < length cs) × (nth cs k .place ≡ 0) × (nth us k ≡ arrival t arrivals j)
   pub once : (j k : ℕ) → j < length cs → k < length cs → nth cs j .place ≡ 0 → nth cs k .place ≡ 0 → 1 ≤ nth us j .place → 1 ≤ nth us k .place
       → nth us j .input .0 ≡ nth us k .input .0 → j ≡ k
@@ -103,64 +107,78 @@ module _ {t : Slot} {arrivals : List ℕ} {cs : List Cell} where
         }
 
     -- what arrives at input i takes the free record k
-    inhaled-store : (k : ℕ) → k < length us → nth us k .place ≡ 0 → So (arrives arrivals i) → Inhaled t arrivals (suc i) cs (set us k (arrival t arrivals i))
-    inhaled-store k l z x = record { long = length-set us k c ∙ h .long; old = old′; new = new′; came = came′; once = once′; total = omega (arith, live-store us k c l z (omega arith), h .total, count-suc (arrives arrivals) i, ap bit x) }
-      where
-        c : Cell
-        c = arrival t arrivals i
+    module _ (k : ℕ) (l : k < length us) (z : nth us k .place ≡ 0) (x : So (arrives arrivals i)) where
+      abbrev c : Cell
+      c = arrival t arrivals i
 
-        place≡ : {a b : Cell} → a ≡ b → a .place ≡ b .place
-        place≡ e = ap (λ (d : Cell). d .place) e
+      -- a record other than k is as it was, and k holds c
+      cases : (j : ℕ) → ((j ≡ k) × (nth (set us k c) j ≡ c)) ⊎ ((j ≡ k → ⊥) × (nth (set us k c) j ≡ nth us j))
+      cases j = stored free us k c l j
 
-        input≡ : {a b : Cell} → a ≡ b → a .input .0 ≡ b .input .0
-        input≡ e = ap (λ (d : Cell). d .input .0) e
+      -- the record was free before the inhale
+      was : nth cs k .place ≡ 0
+      was = ⊎-elim (λ e. e) (λ w. absurd (omega (arith, place≡ (h .old k (omega (arith, h .long)) w)))) (eq-zero-or-pos (nth cs k .place))
 
-        -- the record was free before the inhale
-        was : nth cs k .place ≡ 0
-        was = ⊎-elim (λ e. e) (λ w. absurd (omega (arith, place≡ (h .old k (omega (arith, h .long)) w)))) (eq-zero-or-pos (nth cs k .place))
+      store-old : (j : ℕ) → j < length cs → 1 ≤ nth cs j .place → nth (set us k c) j ≡ nth cs j
+      store-old j m w = ⊎-elim (λ s. absurd (omega (arith, was, ap (λ (q : ℕ). nth cs q .place) (s .0)))) (λ s. s .1 ∙ h .old j m w) (cases j)
 
-        old′ : (j : ℕ) → j < length cs → 1 ≤ nth cs j .place → nth (set us k c) j ≡ nth cs j
-        old′ j m w = ⊎-elim (λ s. absurd (omega (arith, was, ap (λ (q : ℕ). nth cs q .place) (s .0)))) (λ s. s .1 ∙ h .old j m w) (stored free us k c l j)
+      store-new : (j : ℕ) → j < length cs → nth cs j .place ≡ 0 → (nth (set us k c) j ≡ nth cs j) ⊎ Came t arrivals (suc i) (nth (set us k c) j)
+      store-new j m w =
+          ⊎-elim
+          (λ s. inr (i, omega arith, x, s .1))
+          (λ s. ⊎-elim (λ y. inl (s .1 ∙ y)) (λ y. inr (y .0, omega (arith, y .1), y .2, s .1 ∙ y .3)) (h .new j m w))
+          (cases j)
 
-        new′ : (j : ℕ) → j < length cs → nth cs j .place ≡ 0 → (nth (set us k c) j ≡ nth cs j) ⊎ ((q : ℕ) × (q < suc i) × So (arrives arrivals q) × (nth (set us k c) j ≡ arrival t arrivals q))
-        new′ j m w =
-            ⊎-elim
-            (λ s. inr (i, omega arith, x, s .1))
-            (λ s. ⊎-elim (λ y. inl (s .1 ∙ y)) (λ y. inr (y .0, omega (arith, y .1), y .2, s .1 ∙ y .3)) (h .new j m w))
-            (stored free us k c l j)
+      -- a record that holds a cell is not k
+      keeps : (q j : ℕ) → nth us q ≡ arrival t arrivals j → nth (set us k c) q ≡ arrival t arrivals j
+      keeps q j e = ⊎-elim (λ s. absurd (omega (arith, z, ap (λ (j : ℕ). nth us j .place) (s .0), place≡ e))) (λ s. s .1 ∙ e) (cases q)
 
-        came′ : (j : ℕ) → j < suc i → So (arrives arrivals j) → (q : ℕ) × (q < length cs) × (nth cs q .place ≡ 0) × (nth (set us k c) q ≡ arrival t arrivals j)
-        came′ j m y =
-            ⊎-elim
-            (λ (e : j ≡ i). (k, omega (arith, h .long), was, rw e (getD-set-same us k c free l)))
-            (λ b. earlier (h .came j b y))
-            (eq-or-lt-of-le {n = j} {m = i} (omega arith))
-          where
-            earlier : (q : ℕ) × (q < length cs) × (nth cs q .place ≡ 0) × (nth us q ≡ arrival t arrivals j) → (q : ℕ) × (q < length cs) × (nth cs q .place ≡ 0) × (nth (set us k c) q ≡ arrival t arrivals j)
-            earlier q = (q .0, q .1, q .2, ⊎-elim (λ s. absurd (omega (arith, z, ap (λ (j : ℕ). nth us j .place) (s .0), place≡ (q .3)))) (λ s. s .1 ∙ q .3) (stored free us k c l (q .0)))
+      store-came : (j : ℕ) → j < suc i → So (arrives arrivals j)
+          → (q : ℕ) × (q < length cs) × (nth cs q .place ≡ 0) × (nth (set us k c) q ≡ arrival t arrivals j)
+      store-came j m y =
+          ⊎-elim
+          (λ (e : j ≡ i). (k, omega (arith, h .long), was, rw e (getD-set-same us k c free l)))
+          (λ b. let q = h .came j b y in (q .0, q .1, q .2, keeps (q .0) j (q .3)))
+          (eq-or-lt-of-le {n = j} {m = i} (omega arith))
 
-        -- what arrived before came at a lower input
-        low : (j : ℕ) → j < length cs → nth cs j .place ≡ 0 → 1 ≤ nth us j .place → nth us j .input .0 < i
-        low j m w y = ⊎-elim (λ s. absurd (omega (arith, place≡ s))) (λ s. omega (arith, s .1, input≡ (s .3))) (h .new j m w)
+      -- what arrived before came at a lower input
+      low : (j : ℕ) → j < length cs → nth cs j .place ≡ 0 → nth (set us k c) j ≡ nth us j → 1 ≤ nth (set us k c) j .place → nth (set us k c) j .input .0 < i
+      low j m w e y = ⊎-elim (λ s. absurd (omega (arith, place≡ e, place≡ s))) (λ s. omega (arith, s .1, input≡ e, input≡ (s .3))) (h .new j m w)
 
-        once′ : (a b : ℕ) → a < length cs → b < length cs → nth cs a .place ≡ 0 → nth cs b .place ≡ 0 → 1 ≤ nth (set us k c) a .place → 1 ≤ nth (set us k c) b .place
-            → nth (set us k c) a .input .0 ≡ nth (set us k c) b .input .0 → a ≡ b
-        once′ a b ha hb za zb wa wb e =
-            ⊎-elim
-            (λ s. ⊎-elim (λ q. omega (arith, s .0, q .0)) (λ q. absurd (omega (arith, input≡ (s .1), input≡ (q .1), low b hb zb (rw (q .1) at wb)))) (stored free us k c l b))
-            (λ s. ⊎-elim (λ q. absurd (omega (arith, input≡ (s .1), input≡ (q .1), low a ha za (rw (s .1) at wa)))) (λ q. h .once a b ha hb za zb (rw (s .1) at wa) (rw (q .1) at wb) (omega (arith, input≡ (s .1), input≡ (q .1)))) (stored free us k c l b))
-            (stored free us k c l a)
+      store-once : (a b : ℕ) → a < length cs → b < length cs → nth cs a .place ≡ 0 → nth cs b .place ≡ 0
+          → 1 ≤ nth (set us k c) a .place → 1 ≤ nth (set us k c) b .place → nth (set us k c) a .input .0 ≡ nth (set us k c) b .input .0 → a ≡ b
+      store-once a b ha hb za zb wa wb e = go (cases a) (cases b)
+        where
+          go : ((a ≡ k) × (nth (set us k c) a ≡ c)) ⊎ ((a ≡ k → ⊥) × (nth (set us k c) a ≡ nth us a))
+              → ((b ≡ k) × (nth (set us k c) b ≡ c)) ⊎ ((b ≡ k → ⊥) × (nth (set us k c) b ≡ nth us b)) → a ≡ b
+          go (inl p) (inl q) = p .0 ∙ sym (q .0)
+          go (inl p) (inr q) = absurd (omega (arith, input≡ (p .1), low b hb zb (q .1) wb))
+          go (inr p) (inl q) = absurd (omega (arith, input≡ (q .1), low a ha za (p .1) wa))
+          go (inr p) (inr q) = h .once a b ha hb za zb (rw (p .1) at wa) (rw (q .1) at wb) (sym (input≡ (p .1)) ∙ e ∙ input≡ (q .1))
+
+      inhaled-store : Inhaled t arrivals (suc i) cs (set us k c)
+      inhaled-store = record {
+        long = length-set us k c ∙ h .long;
+        old = store-old;
+        new = store-new;
+        came = store-came;
+        once = store-once;
+        total = omega (arith, live-store us k c l z (omega arith), h .total, count-suc (arrives arrivals) i, ap bit x);
+      }
 
     -- one input; there is room while fewer are live than there are records
     inhaled-enter : (So (arrives arrivals i) → live us < length us) → Inhaled t arrivals (suc i) cs (enter t arrivals i us)
     unfolding enter lowestFree
     inhaled-enter room =
         ⊎-elim
-        (λ x. rw (cond-true (arrives arrivals i) (storeAt (lowestFree us) (arrival t arrivals i) us) us x) (go x (lowestFree us) (lowest-is (λ k. isFree (nth us k)) (length us))))
-        (λ x. rw (cond-false (arrives arrivals i) (storeAt (lowestFree us) (arrival t arrivals i) us) us x) (inhaled-skip x))
+        (λ x. rw (cond-true (arrives arrivals i) (at (lowestFree us)) us x) (go x (lowestFree us) (lowest-is (λ k. isFree (nth us k)) (length us))))
+        (λ x. rw (cond-false (arrives arrivals i) (at (lowestFree us)) us x) (inhaled-skip x))
         (passes (arrives arrivals i))
       where
-        go : So (arrives arrivals i) → (f : Found) → Least (λ k. isFree (nth us k)) ltb (length us) f → Inhaled t arrivals (suc i) cs (storeAt f (arrival t arrivals i) us)
+        at : Found → List Cell
+        at f = storeAt f (arrival t arrivals i) us
+
+        go : So (arrives arrivals i) → (f : Found) → Least (λ k. isFree (nth us k)) ltb (length us) f → Inhaled t arrivals (suc i) cs (at f)
         go x (At k) s = inhaled-store k (s .0) (free→ _ (s .1)) x
         go x Nothing s = let k = some-free us (room x) in absurd (s (k .0) (k .1) (k .2))
 
@@ -169,7 +187,7 @@ pub inhaled-was : {t : Slot} {arrivals : List ℕ} {i : ℕ} {cs us : List Cell}
     → ((1 ≤ nth cs k .place) × (nth us k ≡ nth cs k)) ⊎ ((nth cs k .place ≡ 0) × (nth us k .entered .0 ≡ t .0) × (nth us k .place ≡ 1))
 inhaled-was {cs = cs} h k l w =
     ⊎-elim
-    (λ z. ⊎-elim (λ y. absurd (omega (arith, ap (λ (c : Cell). c .place) y))) (λ y. inr (z, ap (λ (c : Cell). c .entered .0) (y .3), ap (λ (c : Cell). c .place) (y .3))) (h .new k l z))
+    (λ z. ⊎-elim (λ y. absurd (omega (arith, place≡ y))) (λ y. inr (z, entered≡ (y .3), place≡ (y .3))) (h .new k l z))
     (λ z. inl (z, h .old k l z))
     (eq-zero-or-pos (nth cs k .place))
 
@@ -179,7 +197,8 @@ module _ (n : ℕ) (t : Slot) (arrivals : List ℕ) (cs : List Cell) (room : liv
   unfolding inhale arriving
   inhale-is =
       over-ind (enter t arrivals) cs (λ i us. Inhaled t arrivals i cs us) inhaled-none n
-      (λ i l us h. inhaled-enter h (λ x. omega (arith, h .total, h .long, count-suc (arrives arrivals) i, ap bit x, count-prefix (arrives arrivals) (suc i) n l)))
+      (λ i l us h. inhaled-enter h (λ x.
+      omega (arith, h .total, h .long, count-suc (arrives arrivals) i, ap bit x, count-prefix (arrives arrivals) (suc i) n l)))
 
   pub inhale-total : live (inhale n t arrivals cs) ≡ live cs + arriving n arrivals
   unfolding arriving
@@ -220,7 +239,7 @@ module _ (n : ℕ) (t : Slot) (arrivals : List ℕ) (cs : List Cell) (room : liv
 
       apart : (j k : ℕ) → j < length us → k < length us → 1 ≤ nth us j .place → 1 ≤ nth us k .place
           → nth us j .entered .0 ≡ nth us k .entered .0 → nth us j .input .0 ≡ nth us k .input .0 → j ≡ k
-      apart j k mj mk wj wk e i = ⊎-elim from-old from-new (inhaled-was h j hj wj)
+      apart j k mj mk wj wk e i = go (inhaled-was h j hj wj) (inhaled-was h k hk wk)
         where
           hj : j < length cs
           hj = omega (arith, h .long)
@@ -228,14 +247,11 @@ module _ (n : ℕ) (t : Slot) (arrivals : List ℕ) (cs : List Cell) (room : liv
           hk : k < length cs
           hk = omega (arith, h .long)
 
-          in≡ : {a b : Cell} → a ≡ b → a .input .0 ≡ b .input .0
-          in≡ e = ap (λ (d : Cell). d .input .0) e
+          Was : ℕ → Type 0
+          Was q = ((1 ≤ nth cs q .place) × (nth us q ≡ nth cs q)) ⊎ ((nth cs q .place ≡ 0) × (nth us q .entered .0 ≡ t .0) × (nth us q .place ≡ 1))
 
-          at≡ : {a b : Cell} → a ≡ b → a .entered .0 ≡ b .entered .0
-          at≡ e = ap (λ (d : Cell). d .entered .0) e
-
-          from-old : (1 ≤ nth cs j .place) × (nth us j ≡ nth cs j) → j ≡ k
-          from-old x = ⊎-elim (λ y. f .apart j k hj hk (x .0) (y .0) (sym (at≡ (x .1)) ∙ e ∙ at≡ (y .1)) (sym (in≡ (x .1)) ∙ i ∙ in≡ (y .1))) (λ y. absurd (omega (arith, early j hj (x .0) (x .1), y .1))) (inhaled-was h k hk wk)
-
-          from-new : (nth cs j .place ≡ 0) × (nth us j .entered .0 ≡ t .0) × (nth us j .place ≡ 1) → j ≡ k
-          from-new x = ⊎-elim (λ y. absurd (omega (arith, early k hk (y .0) (y .1), x .1))) (λ y. h .once j k hj hk (x .0) (y .0) wj wk i) (inhaled-was h k hk wk)
+          go : Was j → Was k → j ≡ k
+          go (inl x) (inl y) = f .apart j k hj hk (x .0) (y .0) (sym (entered≡ (x .1)) ∙ e ∙ entered≡ (y .1)) (sym (input≡ (x .1)) ∙ i ∙ input≡ (y .1))
+          go (inl x) (inr y) = absurd (omega (arith, early j hj (x .0) (x .1), y .1))
+          go (inr x) (inl y) = absurd (omega (arith, early k hk (y .0) (y .1), x .1))
+          go (inr x) (inr y) = h .once j k hj hk (x .0) (y .0) wj wk i

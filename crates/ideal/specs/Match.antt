@@ -11,10 +11,10 @@ use lib.ListN.{length, getD}
 use borrow.Author.Tests.{eqb-true, eq-eqb, ne-eqb}
 use Rattle.laws.specs.Tests.{No, passes, refuted, to-no, both, join, either, on-left, on-right, denied, deny, eqb-self}
 use Rattle.laws.specs.Walk.{over-ind}
-use Rattle.laws.specs.Count.{count, count-same, count-more, count-le, count-full, count-into, any, any→, →any}
+use Rattle.laws.specs.Count.{count, count-same, count-more, count-le, count-full, count-into, any, →any, any-both→, →any-both}
 use Rattle.laws.specs.Order.{strict-on}
 use Rattle.laws.specs.Choice.{Choice, choice-unique}
-use Rattle.laws.specs.Least.{Least, least-is, lowest, lowest-is, count-onto}
+use Rattle.laws.specs.Least.{Least, least-is, least-at, lowest, lowest-is, count-onto}
 use Rattle.laws.specs.Lists.{getD-tabulate}
 use Rattle.laws.specs.declared.Found.{Found}
 use Rattle.laws.specs.declared.Found.the-variants.{At, Nothing}
@@ -24,8 +24,8 @@ use Rattle.rules.specs.declared.Slot.{Slot}
 use Rattle.rules.specs.declared.Cell.{Cell}
 use Rattle.rules.specs.Cells.{nth, outputOf, isWaiting, sameInput, sameOutput, before}
 use Rattle.rules.specs.Phases.{conflict, isOpen, firstOpen, none, add, addFound, round, matchOf, isTakenInput, isTakenOutput, moves, servedWord, matchWords}
-use Rattle.rules.specs.Model.{Match}
-use Rattle.ideal.specs.Cells.{waiting→, by-output, conflict-self, conflict-sym, before-strict}
+use Rattle.rules.specs.Model.{Match, same}
+use Rattle.ideal.specs.Cells.{waiting→, →waiting, by-output, conflict-self, conflict-sym, same→, same-self, same-refl, before-strict, before-same, before-other}
 use Rattle.ideal.specs.Fit.{Fit, untied}
 
 -- A set with one more ---------------------------------------------------------------------------
@@ -50,56 +50,58 @@ module _ (cs : List Cell) (m : ℕ → Bool) where
   unfolding isOpen
   open→ k h =
       let a = both (isWaiting (nth cs k)) _ h in
-      (a .0, λ d i x y. refuted (→any (λ j. m j && conflict (nth cs j) (nth cs k)) (length cs) d i (join _ _ x y)) (denied _ (a .1)))
+      (a .0, λ d i x y. refuted (→any-both m (λ j. conflict (nth cs j) (nth cs k)) (length cs) d i x y) (denied _ (a .1)))
 
   pub shut→ : (k : ℕ) → So (isWaiting (nth cs k)) → No (isOpen cs m k) → (d : ℕ) × (d < length cs) × So (m d) × So (conflict (nth cs d) (nth cs k))
   unfolding isOpen
   shut→ k w h =
       ⊎-elim
-      (λ x. let d = any→ (λ j. m j && conflict (nth cs j) (nth cs k)) (length cs) x in let b = both _ _ (d .2) in (d .0, d .1, b .0, b .1))
+      (any-both→ m (λ j. conflict (nth cs j) (nth cs k)) (length cs))
       (λ x. absurd (refuted (join _ _ w (deny _ x)) h))
       (passes (any (λ j. m j && conflict (nth cs j) (nth cs k)) (length cs)))
 
   pub takenIn→ : (i : Input) → So (isTakenInput m cs i) → (d : ℕ) × (d < length cs) × So (m d) × (nth cs d .input .0 ≡ i .0)
   unfolding isTakenInput sameInput
-  takenIn→ i h =
-      let d = any→ (λ k. m k && sameInput (nth cs k .input) i) (length cs) h in
-      let b = both (m (d .0)) _ (d .2) in
-      (d .0, d .1, b .0, eqb-true _ _ (b .1))
+  takenIn→ i h = let d = any-both→ m (λ k. sameInput (nth cs k .input) i) (length cs) h in (d .0, d .1, d .2, eqb-true _ _ (d .3))
 
   pub →takenIn : (i : Input) (d : ℕ) → d < length cs → So (m d) → nth cs d .input .0 ≡ i .0 → So (isTakenInput m cs i)
   unfolding isTakenInput sameInput
-  →takenIn i d l x e = →any (λ k. m k && sameInput (nth cs k .input) i) (length cs) d l (join _ _ x (eq-eqb _ _ e))
+  →takenIn i d l x e = →any-both m (λ k. sameInput (nth cs k .input) i) (length cs) d l x (eq-eqb _ _ e)
 
   pub taken→ : (o : Output) → So (isTakenOutput m cs o) → (d : ℕ) × (d < length cs) × So (m d) × (nth cs d .output .0 ≡ o .0)
   unfolding isTakenOutput sameOutput
-  taken→ o h =
-      let d = any→ (λ k. m k && sameOutput (nth cs k .output) o) (length cs) h in
-      let b = both (m (d .0)) _ (d .2) in
-      (d .0, d .1, b .0, eqb-true _ _ (b .1))
+  taken→ o h = let d = any-both→ m (λ k. sameOutput (nth cs k .output) o) (length cs) h in (d .0, d .1, d .2, eqb-true _ _ (d .3))
 
   pub →taken : (o : Output) (d : ℕ) → d < length cs → So (m d) → nth cs d .output .0 ≡ o .0 → So (isTakenOutput m cs o)
   unfolding isTakenOutput sameOutput
-  →taken o d i x e = →any (λ k. m k && sameOutput (nth cs k .output) o) (length cs) d i (join _ _ x (eq-eqb _ _ e))
+  →taken o d i x e = →any-both m (λ k. sameOutput (nth cs k .output) o) (length cs) d i x (eq-eqb _ _ e)
 
 -- Any two matches are one -------------------------------------------------------------------------
 
--- how many records stand before record k
-earlier : List ℕ → List Cell → ℕ → ℕ
-earlier r cs k = count (λ j. before r (nth cs j) (nth cs k)) (length cs)
+-- how many records hold a cell that stands before c
+unfoldable pub earlier : List ℕ → List Cell → Cell → ℕ
+earlier r cs c = count (λ k. before r (nth cs k) c) (length cs)
 
-earlier-less : (r : List ℕ) (cs : List Cell) (d k : ℕ) → d < length cs → So (before r (nth cs d) (nth cs k)) → earlier r cs d < earlier r cs k
+-- fewer stand before a cell of the table than before what it stands before
+pub earlier-less : (r : List ℕ) (cs : List Cell) (d c : Cell) (k : ℕ) → k < length cs → So (same (nth cs k) d) → So (before r d c)
+    → earlier r cs d < earlier r cs c
 unfolding earlier
-earlier-less r cs d k l h =
-    let s = before-strict r in
-    omega (arith, count-more (λ j. before r (nth cs j) (nth cs d)) (λ j. before r (nth cs j) (nth cs k)) (length cs) (λ j i x. s .transitive _ _ _ x h) d l h (λ x. refuted x (s .irreflexive (nth cs d))))
+earlier-less r cs d c k l e b =
+    omega (
+      arith,
+      count-more (λ j. before r (nth cs j) d) (λ j. before r (nth cs j) c) (length cs) (λ j i x. before-strict r .transitive _ d c x b) k l
+          (before-same r (nth cs k) d c c (same→ _ d e) (same-self c) ∙ b) (λ x. before-other r (nth cs k) d x e),
+    )
 
 module _ {r : List ℕ} {cs : List Cell} where
   -- a match is a choice among the waiting records
-  match-choice : {m : ℕ → Bool} → Match r cs m → Choice (λ k. (k < length cs) × So (isWaiting (nth cs k))) (λ d k. conflict (nth cs d) (nth cs k)) (λ d k. before r (nth cs d) (nth cs k)) m
+  match-choice : {m : ℕ → Bool} → Match r cs m
+      → Choice (λ k. (k < length cs) × So (isWaiting (nth cs k))) (λ d k. conflict (nth cs d) (nth cs k)) (λ d k. before r (nth cs d) (nth cs k)) m
   match-choice a =
       record {
-        apart = λ d k i j x y c b. refuted (subst (λ (e : ℕ). So (before r (nth cs e) (nth cs k))) (a .apart d k (i .0) (j .0) x y c) b) (before-strict r .irreflexive (nth cs k));
+        apart = λ d k i j x y c b.
+            let e = a .apart d k (i .0) (j .0) x y c in
+            refuted (subst (λ (e : ℕ). So (before r (nth cs e) (nth cs k))) e b) (before-strict r .irreflexive (nth cs k));
         beaten = λ k i x. let d = a .beaten k (i .0) (i .1) x in (d .0, (d .1, a .waits (d .0) (d .1) (d .2)), d .2, d .3, d .4);
       }
 
@@ -107,20 +109,46 @@ module _ {r : List ℕ} {cs : List Cell} where
   pub match-unique : {m l : ℕ → Bool} → Match r cs m → Match r cs l → (k : ℕ) → k < length cs → m k ≡ l k
   match-unique {m} {l} a b k i =
       ⊎-elim
-      (λ w. choice-unique (earlier r cs) (λ d k i h. earlier-less r cs d k (i .0) h) (match-choice a) (match-choice b) k (i, w))
+      (λ w. choice-unique (λ k. earlier r cs (nth cs k)) less (match-choice a) (match-choice b) k (i, w))
       (λ w. to-no (λ x. refuted (a .waits k i x) w) ∙ sym (to-no (λ x. refuted (b .waits k i x) w)))
       (passes (isWaiting (nth cs k)))
+    where
+      less : (d k : ℕ) → (d < length cs) × So (isWaiting (nth cs d)) → So (before r (nth cs d) (nth cs k)) → earlier r cs (nth cs d) < earlier r cs (nth cs k)
+      less d k i h = earlier-less r cs (nth cs d) (nth cs k) d (i .0) (same-refl (nth cs d)) h
 
   -- no waiting cell is free of conflict with a match
   pub match-closed : {m : ℕ → Bool} → Match r cs m → (k : ℕ) → k < length cs → No (isOpen cs m k)
-  match-closed {m} a k i = to-no (λ h. let o = open→ cs m k h in ⊎-elim (λ x. o .1 k i x (conflict-self (nth cs k))) (λ x. let d = a .beaten k i (o .0) x in o .1 (d .0) (d .1) (d .2) (d .3)) (passes (m k)))
+  match-closed {m} a k i =
+      to-no (λ h.
+      let o = open→ cs m k h in
+      ⊎-elim (λ x. o .1 k i x (conflict-self (nth cs k))) (λ x. let d = a .beaten k i (o .0) x in o .1 (d .0) (d .1) (d .2) (d .3)) (passes (m k)))
 
 -- Picking finds the match -------------------------------------------------------------------------
+
+pub open-found : (r : List ℕ) (cs : List Cell) (m : ℕ → Bool) (k : ℕ) → firstOpen r cs m ≡ At k → (k < length cs) × So (isOpen cs m k)
+unfolding firstOpen
+open-found r cs m k e = least-at (isOpen cs m) (λ i j. before r (nth cs i) (nth cs j)) (length cs) k e
+
+-- a picked record is a waiting one of the table
+pub match-waits : (n : ℕ) (r : List ℕ) (cs : List Cell) (k : ℕ) → So (matchOf n r cs k) → (k < length cs) × (nth cs k .place ≡ 1)
+unfolding matchOf none round
+match-waits n r cs = over-ind (λ i m. round r cs m) none (λ i m. Waiting m) (λ k x. absurd (false≢true x)) n (λ i l m h. step m h)
+  where
+    Waiting : (ℕ → Bool) → Type 0
+    Waiting m = (k : ℕ) → So (m k) → (k < length cs) × (nth cs k .place ≡ 1)
+
+    go : (m : ℕ → Bool) → Waiting m → (x : Found) → firstOpen r cs m ≡ x → Waiting (addFound m x)
+    go m h Nothing e k x = h k x
+    go m h (At j) e k x =
+        let o = open-found r cs m j e in
+        ⊎-elim (h k) (λ (q : k ≡ j). rw q (o .0, waiting→ _ (open→ cs m j (o .1) .0))) (in-add m j k x)
+
+    step : (m : ℕ → Bool) → Waiting m → Waiting (round r cs m)
+    step m h = go m h (firstOpen r cs m) refl
 
 module _ {n : ℕ} {t : Slot} {cs : List Cell} (f : Fit n t cs) (r : List ℕ) where
   -- a match but for the records that are open
   record Part (m : ℕ → Bool) : Type 0 where
-    waits : (k : ℕ) → k < length cs → So (m k) → So (isWaiting (nth cs k))
     apart : (j k : ℕ) → j < length cs → k < length cs → So (m j) → So (m k) → So (conflict (nth cs j) (nth cs k)) → j ≡ k
     beaten : (k : ℕ) → k < length cs → So (isWaiting (nth cs k)) → No (m k) → No (isOpen cs m k)
         → (d : ℕ) × (d < length cs) × So (m d) × So (conflict (nth cs d) (nth cs k)) × So (before r (nth cs d) (nth cs k))
@@ -132,7 +160,6 @@ module _ {n : ℕ} {t : Slot} {cs : List Cell} (f : Fit n t cs) (r : List ℕ) w
   unfolding none
   empty =
       record {
-        waits = λ k i x. absurd (false≢true x);
         apart = λ j k hj hk x y c. absurd (false≢true x);
         beaten = λ k i w x y. absurd (false≢true (shut→ cs none k w y .2));
       }
@@ -146,13 +173,10 @@ module _ {n : ℕ} {t : Slot} {cs : List Cell} (f : Fit n t cs) (r : List ℕ) w
 
   grow : (m : ℕ → Bool) (k : ℕ) → Part m → firsts m (At k) → Part (add m k)
   unfolding firsts
-  grow m k p s = record { waits = w; apart = ap′; beaten = be }
+  grow m k p s = record { apart = ap′; beaten = be }
     where
       o : So (isWaiting (nth cs k)) × ((d : ℕ) → d < length cs → So (m d) → So (conflict (nth cs d) (nth cs k)) → ⊥)
       o = open→ cs m k (s .1)
-
-      w : (j : ℕ) → j < length cs → So (add m k j) → So (isWaiting (nth cs j))
-      w j i x = ⊎-elim (λ y. p .waits j i y) (λ (e : j ≡ k). rw e (o .0)) (in-add m k j x)
 
       ap′ : (a b : ℕ) → a < length cs → b < length cs → So (add m k a) → So (add m k b) → So (conflict (nth cs a) (nth cs b)) → a ≡ b
       ap′ a b ha hb x y c =
@@ -171,11 +195,10 @@ module _ {n : ℕ} {t : Slot} {cs : List Cell} (f : Fit n t cs) (r : List ℕ) w
 
           -- what is shut by k was open, so k stands before it: nothing ties
           strict : So (isOpen cs m j) → So (before r (nth cs k) (nth cs j))
-          strict z =
-              ⊎-elim
-              (λ h. h)
-              (λ h. absurd (refuted (subst (λ a. So (add m k a)) (untied n t cs f r k j (s .0) i (omega (arith, waiting→ _ (o .0))) (omega (arith, waiting→ _ wj)) h (s .2 j i z)) (self-add m k)) x))
-              (passes (before r (nth cs k) (nth cs j)))
+          strict z = ⊎-elim (λ h. h) (λ h. absurd (refuted (subst (λ a. So (add m k a)) (tied h) (self-add m k)) x)) (passes (before r (nth cs k) (nth cs j)))
+            where
+              tied : No (before r (nth cs k) (nth cs j)) → k ≡ j
+              tied h = untied n t cs f r k j (s .0) i (omega (arith, waiting→ _ (o .0))) (omega (arith, waiting→ _ wj)) h (s .2 j i z)
 
           was : So (isOpen cs m j) → (d : ℕ) × (d < length cs) × So (add m k d) × So (conflict (nth cs d) (nth cs j)) × So (before r (nth cs d) (nth cs j))
           was z = go (shut→ cs (add m k) j wj y)
@@ -219,7 +242,8 @@ module _ {n : ℕ} {t : Slot} {cs : List Cell} (f : Fit n t cs) (r : List ℕ) w
   unfolding Closed moves
   all-taken m h k i x =
       let w = open→ cs m k x in
-      let d = taken→ cs m (nth cs k .output) (count-full (λ o. isTakenOutput m cs (outputOf o)) n h (nth cs k .output .0) (f .each k i .output (omega (arith, waiting→ _ (w .0))))) in
+      let l = f .each k i .output (omega (arith, waiting→ _ (w .0))) in
+      let d = taken→ cs m (nth cs k .output) (count-full (λ o. isTakenOutput m cs (outputOf o)) n h (nth cs k .output .0) l) in
       w .1 (d .0) (d .1) (d .2) (by-output (nth cs (d .0)) (nth cs k) (d .3))
 
   -- "There is exactly one such set": picking finds one
@@ -230,7 +254,7 @@ module _ {n : ℕ} {t : Slot} {cs : List Cell} (f : Fit n t cs) (r : List ℕ) w
       done : After n (matchOf n r cs) → Match r cs (matchOf n r cs)
       done a =
           record {
-            waits = a .0 .waits;
+            waits = λ k i x. →waiting _ (match-waits n r cs k x .1);
             apart = a .0 .apart;
             beaten = λ k i w x. a .0 .beaten k i w x (to-no (⊎-elim (λ c. c) (all-taken (matchOf n r cs)) (a .1) k i));
           }
@@ -266,7 +290,9 @@ module _ {n : ℕ} {t : Slot} {cs : List Cell} (f : Fit n t cs) {r : List ℕ} {
 
   pub match-word : (k : ℕ) → k < length cs → So (m k) → getD (matchWords n m cs) (nth cs k .output .0) 0 ≡ suc (nth cs k .input .0)
   unfolding server sameOutput
-  match-word k l x = word-at (nth cs k .output .0) (f .each k l .output (omega (arith, waiting→ _ (a .waits k l x)))) ∙ go (server (nth cs k .output .0)) (lowest-is (λ j. m j && sameOutput (nth cs j .output) (nth cs k .output)) (length cs))
+  match-word k l x =
+      word-at (nth cs k .output .0) (f .each k l .output (omega (arith, waiting→ _ (a .waits k l x))))
+      ∙ go (server (nth cs k .output .0)) (lowest-is (λ j. m j && sameOutput (nth cs j .output) (nth cs k .output)) (length cs))
     where
       go : (y : Found) → Least (λ j. m j && sameOutput (nth cs j .output) (nth cs k .output)) ltb (length cs) y → servedWord cs y ≡ suc (nth cs k .input .0)
       go (At j) s =

@@ -10,7 +10,7 @@ use lib.Dec.{ltb}
 use lib.ListN.{length}
 use Rattle.laws.specs.Tests.{passes, refuted, to-no, both, join, denied, deny, same-test}
 use Rattle.laws.specs.Choice.{Choice, choice-unique}
-use Rattle.laws.specs.Count.{count, count-more, count-into}
+use Rattle.laws.specs.Count.{count-into}
 use Rattle.laws.specs.Least.{Least, lowest, lowest-is}
 use Rattle.laws.specs.Lists.{tabulate-same}
 use Rattle.laws.specs.declared.Found.{Found}
@@ -21,17 +21,15 @@ use Rattle.rules.specs.declared.Cell.{Cell}
 use Rattle.rules.specs.Cells.{mostPorts, outputOf, nth, isLive, isReady, isReadyFor, sameOutput, before}
 use Rattle.rules.specs.Phases.{conflict, readyCount, readings}
 use Rattle.rules.specs.Model.{same, inputBuffer, outputBuffer, Inhale, Transfer, Exhale, Slotted}
-use Rattle.ideal.specs.Cells.{→live, →ready, ready→, readyFor→, →readyFor, same→, same-refl, same-sym, same-trans, conflict→, before-strict, before-same, before-other, older-tie}
+use Rattle.ideal.specs.Cells.{→live, →ready, ready→, readyFor→, →readyFor, same→, same-refl, same-sym, same-trans, conflict→, before-other, older-tie}
 use Rattle.ideal.specs.Fit.{Fit}
+use Rattle.ideal.specs.Match.{earlier, earlier-less}
 use Rattle.ideal.specs.Meets.{among-same, input→, output→, →output, output-eq, eq-output, eq-input}
 
 -- Buffers that hold the same cells
 pub record Alike (t u : List Cell) : Type 0 where
   pub inputs : (c : Cell) → inputBuffer t c ≡ inputBuffer u c
   pub outputs : (c : Cell) → outputBuffer t c ≡ outputBuffer u c
-
-pub alike-refl : (t : List Cell) → Alike t t
-alike-refl t = record { inputs = λ c. refl; outputs = λ c. refl }
 
 -- Enter ------------------------------------------------------------------------------------------
 
@@ -40,24 +38,9 @@ inhale-only x y = record { inputs = λ c. x .arrive c ∙ sym (y .arrive c); out
 
 -- Move -------------------------------------------------------------------------------------------
 
--- how many records hold a cell that stands before c
-earlier : List ℕ → List Cell → Cell → ℕ
-earlier r t c = count (λ k. before r (nth t k) c) (length t)
-
-earlier-less : (r : List ℕ) (t : List Cell) (d c : Cell) → So (inputBuffer t d) → So (before r d c) → earlier r t d < earlier r t c
-unfolding earlier
-earlier-less r t d c h b =
-    let k = input→ t d h in
-    let s = before-strict r in
-    let q = same→ _ d (k .3) in
-    omega (
-      arith,
-      count-more (λ j. before r (nth t j) d) (λ j. before r (nth t j) c) (length t) (λ j i x. s .transitive _ d c x b) (k .0) (k .1)
-          (before-same r (nth t (k .0)) d c c q (same→ c c (same-refl c)) ∙ b) (λ x. before-other r (nth t (k .0)) d x (k .3)),
-    )
-
 -- the transferred cells are a choice among those in the input buffer
-transfer-choice : {r : List ℕ} {x : Cell → Bool} {t u : List Cell} (t′ : List Cell) → Transfer r x t u → ((c : Cell) → inputBuffer t c ≡ inputBuffer t′ c) → Choice (λ c. So (inputBuffer t′ c)) conflict (before r) x
+transfer-choice : {r : List ℕ} {x : Cell → Bool} {t u : List Cell} (t′ : List Cell) → Transfer r x t u → ((c : Cell) → inputBuffer t c ≡ inputBuffer t′ c)
+    → Choice (λ c. So (inputBuffer t′ c)) conflict (before r) x
 transfer-choice {r} {x} t′ a e =
     record {
       apart = λ d c i j h k f b.
@@ -72,9 +55,12 @@ module _ {r : List ℕ} {x y : Cell → Bool} {t t′ u v : List Cell} (a : Tran
   pub transfer-only : (c : Cell) → x c ≡ y c
   transfer-only c =
       ⊎-elim
-      (λ i. choice-unique (earlier r t) (λ d c i h. earlier-less r t d c i h) (transfer-choice t a (λ c. refl)) (transfer-choice t b (λ c. sym (e .inputs c))) c i)
+      (λ i. choice-unique (earlier r t) less (transfer-choice t a (λ c. refl)) (transfer-choice t b (λ c. sym (e .inputs c))) c i)
       (λ i. to-no (λ h. refuted (a .subset c h) i) ∙ sym (to-no (λ h. refuted (e .inputs c ∙ b .subset c h) i)))
       (passes (inputBuffer t c))
+    where
+      less : (d c : Cell) → So (inputBuffer t d) → So (before r d c) → earlier r t d < earlier r t c
+      less d c i h = let k = input→ t d i in earlier-less r t d c (k .0) (k .1) (k .3) h
 
   pub transfer-alike : Alike u v
   transfer-alike =
@@ -118,9 +104,10 @@ leaves-too {e} {g} {t} {t′} a b s f c h = go (b .work c (sym (s .outputs c) �
     go : (d : Cell) × So (g d) × So (sameOutput (d .output) (c .output)) → So (g c)
     go d =
         let inside : So (outputBuffer t (d .0)) = s .outputs (d .0) ∙ b .subset (d .0) (d .1) in
+        let there : So (outputBuffer t′ c) = sym (s .outputs c) ∙ a .subset c h in
         let o : d .0 .output .0 ≡ c .output .0 = output-eq (d .0) c (d .2) in
-        let tie = older-tie c (d .0) (b .order (d .0) c (d .1) (sym (s .outputs c) ∙ a .subset c h) (d .2)) (a .order c (d .0) h inside (eq-output c (d .0) (sym o))) in
-        exhaled-same b (d .0) c (same-sym c (d .0) (f .told c (d .0) (a .subset c h) inside (tie .0) (tie .1))) (sym (s .outputs c) ∙ a .subset c h) (d .1)
+        let tie = older-tie c (d .0) (b .order (d .0) c (d .1) there (d .2)) (a .order c (d .0) h inside (eq-output c (d .0) (sym o))) in
+        exhaled-same b (d .0) c (same-sym c (d .0) (f .told c (d .0) (a .subset c h) inside (tie .0) (tie .1))) there (d .1)
 
 told-alike : {t t′ : List Cell} → Alike t t′ → Told t → Told t′
 told-alike s f = record { told = λ c d x y e i. f .told c d (s .outputs c ∙ x) (s .outputs d ∙ y) e i }
@@ -150,16 +137,20 @@ number : Found → ℕ
 number (At k) = k
 number Nothing = 0
 
-place-is : (u : List Cell) (c : Cell) → So (outputBuffer u c) → (number (place-of u c) < length u) × (nth u (number (place-of u c)) .place ≡ 2) × So (same (nth u (number (place-of u c))) c)
-unfolding place-of number
+-- a ready record of u that holds c
+HoldsReady : List Cell → Cell → ℕ → Type 0
+HoldsReady u c k = (k < length u) × (nth u k .place ≡ 2) × So (same (nth u k) c)
+
+place-is : (u : List Cell) (c : Cell) → So (outputBuffer u c) → HoldsReady u c (number (place-of u c))
+unfolding place-of number HoldsReady
 place-is u c h = go (place-of u c) (lowest-is (λ k. isReady (nth u k) && same (nth u k) c) (length u))
   where
-    go : (x : Found) → Least (λ k. isReady (nth u k) && same (nth u k) c) ltb (length u) x → (number x < length u) × (nth u (number x) .place ≡ 2) × So (same (nth u (number x)) c)
+    go : (x : Found) → Least (λ k. isReady (nth u k) && same (nth u k) c) ltb (length u) x → HoldsReady u c (number x)
     go (At k) s = let b = both (isReady (nth u k)) _ (s .1) in (s .0, ready→ _ (b .0), b .1)
     go Nothing s = let k = output→ u c h in absurd (s (k .0) (k .1) (join _ _ (→ready _ (k .2)) (k .3)))
 
 reading-le : (t u : List Cell) → Alike t u → Single t → (o : Output) → readyCount t o ≤ readyCount u o
-unfolding readyCount Single
+unfolding readyCount Single HoldsReady
 reading-le t u e f o =
     count-into (λ k. isReadyFor o (nth t k)) (λ k. number (place-of u (nth t k))) (length u) (length t) (λ k. isReadyFor o (nth u k))
     (λ k l x. let r = readyFor→ o (nth t k) x in let p = place k l (r .0) in (p .0, →readyFor o _ (p .1) (same→ _ _ (p .2) .output ∙ r .1)))
@@ -169,7 +160,7 @@ reading-le t u e f o =
     f j k hj hk (→live _ (omega (arith, a .0))) (→live _ (omega (arith, b .0)))
     (same-trans _ _ _ (same-sym _ _ (place j hj (a .0) .2)) (subst (λ (i : ℕ). So (same (nth u i) (nth t k))) (sym q) (place k hk (b .0) .2))))
   where
-    place : (k : ℕ) → k < length t → nth t k .place ≡ 2 → (number (place-of u (nth t k)) < length u) × (nth u (number (place-of u (nth t k))) .place ≡ 2) × So (same (nth u (number (place-of u (nth t k)))) (nth t k))
+    place : (k : ℕ) → k < length t → nth t k .place ≡ 2 → HoldsReady u (nth t k) (number (place-of u (nth t k)))
     place k l w = place-is u (nth t k) (sym (e .outputs (nth t k)) ∙ →output t (nth t k) k l w (same-refl (nth t k)))
 
 pub reading-alike : (t u : List Cell) → Alike t u → Single t → Single u → readings t ≡ readings u
