@@ -95,7 +95,7 @@ module _ (x : State) (ls : Lists) (h : So (isAccepted x (slots ls))) where
         let came = entry a (g .clock) .came in
         let k = came .came i l y in
         let itself = stays-itself (arrival (x .numbers .next) (ls .arrivals) i) (omega arith) (omega arith) in
-        inl (k .0, omega (arith, k .1, came .long), rw (k .3) itself, omega arith)
+        inl (record { number = k .0; below = omega (arith, k .1, came .long); stays = rw (k .3) itself; turn = omega arith })
 
 -- Runs -------------------------------------------------------------------------------------------
 

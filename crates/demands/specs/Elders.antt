@@ -45,7 +45,15 @@ pub stays-same : {c d : Cell} → Stays c d → Same d c
 stays-same s = record { input = s .input; output = s .output; entered = s .entered; tag = s .tag }
 
 pub stays-on : {c d e : Cell} → Stays c d → Stays d e → Stays c e
-stays-on s q = record { was = s .was; lives = q .lives; top = q .top; input = q .input ∙ s .input; output = q .output ∙ s .output; entered = q .entered ∙ s .entered; tag = q .tag ∙ s .tag }
+stays-on s q = record {
+  was = s .was;
+  lives = q .lives;
+  top = q .top;
+  input = q .input ∙ s .input;
+  output = q .output ∙ s .output;
+  entered = q .entered ∙ s .entered;
+  tag = q .tag ∙ s .tag;
+}
 
 -- Between exhales --------------------------------------------------------------------------------
 
@@ -83,7 +91,8 @@ readied-holds t f h = record {
 
 -- At an exhale -----------------------------------------------------------------------------------
 
-module _ {n : ℕ} {t : Slot} {cs : List Cell} (ports : n ≤ mostPorts) (f : Fit n t cs) (led : Led (length cs) age (nth cs)) {c : Cell} {q : ℕ} (l : q < length cs) (s : Stays c (nth cs q)) where
+module _ {n : ℕ} {t : Slot} {cs : List Cell} (ports : n ≤ mostPorts) (f : Fit n t cs) (led : Led (length cs) age (nth cs))
+    {c : Cell} {q : ℕ} (l : q < length cs) (s : Stays c (nth cs q)) where
   as-c : (d : Cell) → older d (nth cs q) ≡ older d c
   as-c d = older-same d d (nth cs q) c (same-self d) (stays-same s)
 
@@ -94,7 +103,9 @@ module _ {n : ℕ} {t : Slot} {cs : List Cell} (ports : n ≤ mostPorts) (f : Fi
       let w : 1 ≤ nth cs (k .0) .place = omega (arith, emitted→ n cs (k .0) (k .2) .ready) in
       ⊎-elim
       (λ h. inr (k .0, k .1, k .2, →elder c (nth cs (k .0)) w (k .3 ∙ s .output) (sym (as-c (nth cs (k .0))) ∙ h)))
-      (λ h. let e = older-tie (nth cs (k .0)) (nth cs q) h (orders ports f led (k .0) q (k .2) l (s .lives) (sym (k .3))) in inl (subst (λ j. So (isEmitted n cs j)) (f .apart (k .0) q (k .1) l w (s .lives) (e .0) (e .1)) (k .2)))
+      (λ h.
+      let e = older-tie (nth cs (k .0)) (nth cs q) h (orders ports f led (k .0) q (k .2) l (s .lives) (sym (k .3))) in
+      inl (subst (λ j. So (isEmitted n cs j)) (f .apart (k .0) q (k .1) l w (s .lives) (e .0) (e .1)) (k .2)))
       (passes (older (nth cs (k .0)) (nth cs q)))
 
   -- with none before it, the cell itself is emitted
@@ -121,7 +132,8 @@ module _ {n : ℕ} {t : Slot} {cs : List Cell} (ports : n ≤ mostPorts) (f : Fi
         (omega (
           arith,
           z,
-          count-more (λ j. isElder c (nth (exhale n cs) j)) (λ j. isElder c (nth cs j)) (length cs) sub (gone .0) (gone .1) (gone .3) (λ y. refuted (gone .2) (left (gone .0) (gone .1) y .0)),
+          count-more (λ j. isElder c (nth (exhale n cs) j)) (λ j. isElder c (nth cs j)) (length cs) sub (gone .0) (gone .1) (gone .3)
+              (λ y. refuted (gone .2) (left (gone .0) (gone .1) y .0)),
           takes-one f (isElder c) (c .output .0) (λ d x. elder→ c d x .1),
         ))
       where
