@@ -42,16 +42,21 @@ module _ {n : ℕ} {key : Cell → ℕ} {v : ℕ} {r : ℕ → ℕ} {m : ℕ →
   grow o k i x = ⊎-elim (λ y. absurd (omega (arith, p .waits k i y, readyFor→ (outputOf o) (t k) x .0))) (λ y. rw (p .kept k i y) x) (passes (m k))
 
   -- what became younger than f has moved to its output
-  enter : (f : Cell) (k : ℕ) → k < n → So (isYounger key f (u k)) → So (isYounger key f (t k)) ⊎ (So (m k) × ((t k) .output .0 ≡ f .output .0) × (key f < key (t k)))
+  Enters : Cell → ℕ → Type 0
+  Enters f k = So (m k) × ((t k) .output .0 ≡ f .output .0) × (key f < key (t k))
+
+  enter : (f : Cell) (k : ℕ) → k < n → So (isYounger key f (u k)) → So (isYounger key f (t k)) ⊎ Enters f k
+  unfolding Enters
   enter f k i x = ⊎-elim (λ y. inr (go y)) (λ y. inl (rw (p .kept k i y) at x)) (passes (m k))
     where
-      go : So (m k) → So (m k) × ((t k) .output .0 ≡ f .output .0) × (key f < key (t k))
+      go : So (m k) → Enters f k
       go y = let h = younger→ key f (placed 2 (t k)) (rw (p .moved k i y) at x) in (y, h .1, omega (arith, law .later (placed 2 (t k)) (t k) (omega arith)))
 
   one-more : (f : Cell) → count (λ k. isYounger key f (u k)) n + 1 ≤ count (λ k. isYounger key f (t k)) n + v
+  unfolding Enters
   one-more f =
       ⊎-elim
-      (λ y. omega (arith, law .two f (u (y .0)) (younger→ key f (u (y .0)) (y .2) .2), count-either Y Y′ M n λ k i x. ⊎-elim (λ z. inl z) (λ z. inr (join _ _ (z .0) (eq-eqb _ _ (z .1)))) (enter f k i x), count-one M n single))
+      (λ y. omega (arith, law .two f (u (y .0)) (younger→ key f (u (y .0)) (y .2) .2), count-either Y Y′ M n side, count-one M n single))
       (λ h. omega (arith, count-none Y n h, law .one))
       (find Y n)
     where
@@ -63,6 +68,9 @@ module _ {n : ℕ} {key : Cell → ℕ} {v : ℕ} {r : ℕ → ℕ} {m : ℕ →
 
       M : ℕ → Bool
       M k = m k && eqb ((t k) .output .0) (f .output .0)
+
+      side : (k : ℕ) → k < n → So (Y k) → So (Y′ k) ⊎ So (M k)
+      side k i x = ⊎-elim (λ z. inl z) (λ z. inr (join _ _ (z .0) (eq-eqb _ _ (z .1)))) (enter f k i x)
 
       single : (j k : ℕ) → j < n → k < n → So (M j) → So (M k) → j ≡ k
       single j k hj hk x y =
@@ -80,13 +88,27 @@ module _ {n : ℕ} {key : Cell → ℕ} {v : ℕ} {r : ℕ → ℕ} {m : ℕ →
     abbrev O : ℕ
     O = (t l) .output .0
 
+    -- the cells before l, and the ready ones for its output, before the phase and after it
+    A : ℕ → Bool
+    A k = isAhead r (t l) (t k)
+
+    A′ : ℕ → Bool
+    A′ k = isAhead r (t l) (u k)
+
+    R : ℕ → Bool
+    R k = isReadyFor (outputOf O) (t k)
+
+    R′ : ℕ → Bool
+    R′ k = isReadyFor (outputOf O) (u k)
+
     -- a cell moved that stands before l at its input
     from-input : (k : ℕ) × (k < n) × So (gone k) → Goal
+    unfolding A A′ R R′
     from-input x =
         let d = x .0 in
         let g = both _ _ (x .2) in
-        let left = count-more (λ k. isAhead r (t l) (u k)) (λ k. isAhead r (t l) (t k)) n (stay (t l)) d (x .1) (g .1) (λ z. refuted (g .0) (unmoved d (x .1) (ahead→ r (t l) (u d) z .0))) in
-        omega (arith, inv .slack f l hf hl wl hfl, one-more (t f), mul-le-mul-left v left, count-mono (λ k. isReadyFor (outputOf O) (t k)) (λ k. isReadyFor (outputOf O) (u k)) n (grow O))
+        let left = count-more A′ A n (stay (t l)) d (x .1) (g .1) (λ z. refuted (g .0) (unmoved d (x .1) (ahead→ r (t l) (u d) z .0))) in
+        omega (arith, inv .slack f l hf hl wl hfl, one-more (t f), mul-le-mul-left v left, count-mono R R′ n (grow O))
 
     -- none did: then what is before l or f is a moved cell for its own output
     module _ (h : (k : ℕ) → k < n → So (gone k) → ⊥) where
@@ -103,15 +125,26 @@ module _ {n : ℕ} {key : Cell → ℕ} {v : ℕ} {r : ℕ → ℕ} {m : ℕ →
           (q .3)
 
       old : Exit f → (k : ℕ) → k < n → So (isYounger key (t f) (u k)) → So (isYounger key (t f) (t k))
-      old q k i x = ⊎-elim (λ z. z) (λ z. absurd (omega (arith, ap (λ j. key (t j)) (p .outputs k (q .0) i (q .1) (z .0) (q .2) (omega arith))))) (enter (t f) k i x)
+      unfolding Enters
+      old q k i x =
+          ⊎-elim (λ z. z)
+          (λ z. absurd (omega (arith, ap (λ j. key (t j)) (p .outputs k (q .0) i (q .1) (z .0) (q .2) (omega arith)))))
+          (enter (t f) k i x)
+
+      -- one more is ready for l's output
+      more : count R n + 1 ≤ count R′ n
+      unfolding R R′
+      more =
+          let d = exit l hl (→ahead r (t l) (t l) wl refl (omega arith)) nl in
+          count-more R R′ n (grow O) (d .0) (d .1) (rw (p .moved (d .0) (d .1) (d .2)) (→readyFor (outputOf O) (placed 2 (t (d .0))) refl (d .3)))
+          (λ z. omega (arith, readyFor→ (outputOf O) (t (d .0)) z .0, p .waits (d .0) (d .1) (d .2)))
 
       from-output : Goal
+      unfolding A A′ R R′
       from-output =
-          let bl = exit l hl (→ahead r (t l) (t l) wl refl (omega arith)) nl in
-          let bf = exit f hf hfl nf in
-          let more = count-more (λ k. isReadyFor (outputOf O) (t k)) (λ k. isReadyFor (outputOf O) (u k)) n (grow O) (bl .0) (bl .1) (rw (p .moved (bl .0) (bl .1) (bl .2)) (→readyFor (outputOf O) (placed 2 (t (bl .0))) refl (bl .3))) (λ z. omega (arith, readyFor→ (outputOf O) (t (bl .0)) z .0, p .waits (bl .0) (bl .1) (bl .2))) in
-          let left = count-mono (λ k. isAhead r (t l) (u k)) (λ k. isAhead r (t l) (t k)) n (stay (t l)) in
-          omega (arith, inv .slack f l hf hl wl hfl, more, mul-le-mul-left v left, count-mono (λ k. isYounger key (t f) (u k)) (λ k. isYounger key (t f) (t k)) n (old bf))
+          let left = count-mono A′ A n (stay (t l)) in
+          let none = count-mono (λ k. isYounger key (t f) (u k)) (λ k. isYounger key (t f) (t k)) n (old (exit f hf hfl nf)) in
+          omega (arith, inv .slack f l hf hl wl hfl, more, mul-le-mul-left v left, none)
 
     gains : Goal
     gains = ⊎-elim from-input from-output (find gone n)

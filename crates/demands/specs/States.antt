@@ -17,6 +17,7 @@ use Rattle.rules.specs.Phases.{readings, exhale}
 use Rattle.rules.specs.Calls.{State, Call, starts, raised, entered, transferred, slotRuns, run}
 use Rattle.rules.specs.Demands.{isAccepted}
 use Rattle.words.specs.Words.{cellsOf-zeros}
+use Rattle.ideal.specs.Cells.{place≡}
 use Rattle.ideal.specs.Fit.{Fit}
 use Rattle.ideal.specs.Phases.{phasesBy, phases-by}
 use Rattle.ideal.specs.Inhale.{inhale-is}
@@ -76,7 +77,7 @@ module _ {rule : Switch → Policy} where
       (record { fits = fresh-fit w (x .table); clock = omega arith; slack = λ fast. record { slack = λ f l hf hl wl hfl. absurd (empty l wl) } })
     where
       empty : (k : ℕ) → nth (cellsOf (replicate (length (x .table)) 0)) k .place ≡ 1 → ⊥
-      empty k e = omega (arith, ap (λ (c : Cell). c .place) (cellsOf-zeros (length (x .table)) k))
+      empty k e = omega (arith, place≡ (cellsOf-zeros (length (x .table)) k))
 
   module _ (ruled : Ruled rule) where
     pub good-kept : KeptBySlots (Good rule)

@@ -1,7 +1,7 @@
 -- Document 01's inhale, transfer phase and exhale are steps of the invariant: a turn in which one cell may come to an input, a phase, and a
 -- turn in which one cell may leave an output.
 -- Assumes nothing.
-use mathlib.Core.Path.{_≡_, sym, ap, _∙_}
+use mathlib.Core.Path.{_≡_, sym, _∙_}
 use mathlib.Core.Logic.{_⊎_, inl, inr, ⊎-elim}
 use mathlib.Core.Bool.{Bool, So, _&&_}
 use mathlib.Core.List.{List}
@@ -18,7 +18,7 @@ use Rattle.rules.specs.declared.Slot.{Slot}
 use Rattle.rules.specs.declared.Cell.{Cell}
 use Rattle.rules.specs.Cells.{mostPorts, slotOf, outputOf, nth, isReadyFor, readingFor, before}
 use Rattle.rules.specs.Phases.{readyCount, readings, moved, isEmitted, exhale}
-use Rattle.ideal.specs.Cells.{waiting→, readyFor→}
+use Rattle.ideal.specs.Cells.{place≡, input≡, entered≡, waiting→, readyFor→}
 use Rattle.ideal.specs.Fit.{Fit}
 use Rattle.ideal.specs.Phases.{moved-yes, moved-no, Picks}
 use Rattle.ideal.specs.Inhale.{Inhaled, inhaled-was}
@@ -31,13 +31,15 @@ use Rattle.demands.specs.Phase.{Phase}
 use Rattle.demands.specs.Policy.{Weighs, Advances}
 
 -- on a fit table, ages are below the reach
-pub bounded : {n : ℕ} {t : Slot} {cs : List Cell} → Fit n t cs → n ≤ mostPorts → t .0 ≤ slotEnd → (k : ℕ) → k < length cs → 1 ≤ nth cs k .place → age (nth cs k) < reach
+pub bounded : {n : ℕ} {t : Slot} {cs : List Cell} → Fit n t cs → n ≤ mostPorts → t .0 ≤ slotEnd → (k : ℕ) → k < length cs → 1 ≤ nth cs k .place
+    → age (nth cs k) < reach
 bounded f ports clock k l w = omega (arith, f .each k l .input w, f .each k l .entered w)
 
 -- Inhale -----------------------------------------------------------------------------------------
 
 module _ {n : ℕ} {t : Slot} {arrivals : List ℕ} {cs us : List Cell} (h : Inhaled t arrivals n cs us) where
-  come : (i k : ℕ) → k < length cs → So (comes (nth cs) (nth us) i k) → (nth cs k .place ≡ 0) × (nth us k .entered .0 ≡ t .0) × (nth us k .place ≡ 1) × (nth us k .input .0 ≡ i)
+  come : (i k : ℕ) → k < length cs → So (comes (nth cs) (nth us) i k)
+      → (nth cs k .place ≡ 0) × (nth us k .entered .0 ≡ t .0) × (nth us k .place ≡ 1) × (nth us k .input .0 ≡ i)
   come i k l c =
       let a = comes→ (nth cs) (nth us) i k c in
       ⊎-elim (λ y. absurd (a .0 (rw (y .1) at (a .1)))) (λ y. (y .0, y .1, y .2, a .2)) (inhaled-was h k l (omega (arith, a .1)))
@@ -45,23 +47,27 @@ module _ {n : ℕ} {t : Slot} {arrivals : List ℕ} {cs us : List Cell} (h : Inh
   was-ready : (k : ℕ) → k < length cs → nth us k .place ≡ 2 → (1 ≤ nth cs k .place) × (nth us k ≡ nth cs k)
   was-ready k l w = ⊎-elim (λ y. y) (λ y. absurd (omega (arith, y .2))) (inhaled-was h k l (omega arith))
 
-  pub inhale-turn : {key : Cell → ℕ} {v : ℕ} → Weighs key v → n ≤ mostPorts → t .0 < slotEnd → Fit n t cs → Fit n (slotOf (suc (t .0))) us → Turn (length cs) key (nth cs) (nth us) 1 0
+  pub inhale-turn : {key : Cell → ℕ} {v : ℕ} → Weighs key v → n ≤ mostPorts → t .0 < slotEnd → Fit n t cs → Fit n (slotOf (suc (t .0))) us
+      → Turn (length cs) key (nth cs) (nth us) 1 0
   inhale-turn law ports clock f g =
       record {
         stays = λ k l w w′. h .old k l (omega arith);
         ready = λ k l w. was-ready k l w .1;
         fresh = λ i k j hk hj c w. law .later (nth us j) (nth us k) (later i k j hk hj c w);
         few = λ i. count-one (comes (nth cs) (nth us) i) (length cs) (single i);
-        loses = λ o. omega (arith, count-mono (λ k. isReadyFor (outputOf o) (nth cs k)) (λ k. isReadyFor (outputOf o) (nth us k)) (length cs) (λ k l x. rw (h .old k l (omega (arith, readyFor→ (outputOf o) (nth cs k) x .0))) x));
+        loses = λ o. omega (arith, count-mono (λ k. isReadyFor (outputOf o) (nth cs k)) (λ k. isReadyFor (outputOf o) (nth us k)) (length cs) (still-ready o));
         bounded = λ k l w. bounded g ports clock k (omega (arith, h .long)) (omega arith);
       }
     where
+      still-ready : (o k : ℕ) → k < length cs → So (isReadyFor (outputOf o) (nth cs k)) → So (isReadyFor (outputOf o) (nth us k))
+      still-ready o k l x = rw (h .old k l (omega (arith, readyFor→ (outputOf o) (nth cs k) x .0))) x
+
       later : (i k j : ℕ) → k < length cs → j < length cs → So (comes (nth cs) (nth us) i k) → nth us j .place ≡ 2 → age (nth us j) ≤ age (nth us k)
       later i k j hk hj c w =
           let a = was-ready j hj w in
           let e = f .each j hj .entered (a .0) in
           let m = f .each j hj .input (a .0) in
-          omega (arith, come i k hk c .1, ap (λ (c : Cell). c .entered .0) (a .1), ap (λ (c : Cell). c .input .0) (a .1))
+          omega (arith, come i k hk c .1, entered≡ (a .1), input≡ (a .1))
 
       single : (i j k : ℕ) → j < length cs → k < length cs → So (comes (nth cs) (nth us) i j) → So (comes (nth cs) (nth us) i k) → j ≡ k
       single i j k hj hk a b =
@@ -106,8 +112,10 @@ module _ {n : ℕ} {t : Slot} {cs : List Cell} {key : Cell → ℕ} {rs : List �
 
 module _ {n : ℕ} {t : Slot} {cs : List Cell} (f : Fit n t cs) where
   -- of the cells for one output an exhale takes one at most
-  pub takes-one : (p : Cell → Bool) (o : ℕ) → ((c : Cell) → So (p c) → c .output .0 ≡ o) → count (λ k. p (nth cs k)) (length cs) ≤ count (λ k. p (nth (exhale n cs) k)) (length cs) + 1
-  takes-one p o own = omega (arith, count-either (λ k. p (nth cs k)) (λ k. p (nth (exhale n cs) k)) leaves (length cs) side, count-one leaves (length cs) single)
+  pub takes-one : (p : Cell → Bool) (o : ℕ) → ((c : Cell) → So (p c) → c .output .0 ≡ o)
+      → count (λ k. p (nth cs k)) (length cs) ≤ count (λ k. p (nth (exhale n cs) k)) (length cs) + 1
+  takes-one p o own =
+      omega (arith, count-either (λ k. p (nth cs k)) (λ k. p (nth (exhale n cs) k)) leaves (length cs) side, count-one leaves (length cs) single)
     where
       leaves : ℕ → Bool
       leaves k = isEmitted n cs k && eqb (nth cs k .output .0) o
@@ -129,7 +137,7 @@ module _ {n : ℕ} {t : Slot} {cs : List Cell} (f : Fit n t cs) where
         fresh = λ i k j hk hj c w. absurd (none-come i k hk c);
         few = λ i. omega (arith, count-none (comes (nth cs) (nth (exhale n cs)) i) (length cs) (none-come i));
         loses = λ o. takes-one (isReadyFor (outputOf o)) o (λ c x. readyFor→ (outputOf o) c x .1);
-        bounded = λ k l w. let s = exhale-left n cs k l (omega arith) .1 in rw s (bounded f ports clock k l (omega (arith, ap (λ (c : Cell). c .place) s)));
+        bounded = λ k l w. let s = exhale-left n cs k l (omega arith) .1 in rw s (bounded f ports clock k l (omega (arith, place≡ s)));
       }
     where
       none-come : (i k : ℕ) → k < length cs → So (comes (nth cs) (nth (exhale n cs)) i k) → ⊥

@@ -73,8 +73,11 @@ module _ {n : ℕ} {key : Cell → ℕ} {v : ℕ} {r : ℕ → ℕ} {t u : ℕ �
     all-come : ((k : ℕ) → k < n → So (old k) → ⊥) → Goal
     all-come no′ = ⊎-elim (λ y. absurd (no′ f hf y)) (λ y. omega (arith, none y, mul-le-mul-left v few′)) (side f hf hfl)
       where
+        only : (k : ℕ) → k < n → So (A (u k)) → So (comes t u ((u l) .input .0) k)
+        only k i x = ⊎-elim (λ y. absurd (no′ k i y)) (λ y. y) (side k i x)
+
         few′ : count (λ k. A (u k)) n ≤ g
-        few′ = omega (arith, m .few ((u l) .input .0), count-mono (λ k. A (u k)) (comes t u ((u l) .input .0)) n λ k i x. ⊎-elim (λ y. absurd (no′ k i y)) (λ y. y) (side k i x))
+        few′ = omega (arith, m .few ((u l) .input .0), count-mono (λ k. A (u k)) (comes t u ((u l) .input .0)) n only)
 
     -- d is the last, by the old reading, of the old cells before l
     module _ (d : ℕ) (hd : d < n) (od : So (old d)) (last : (j : ℕ) → j < n → So (old j) → rank r (t j) ≤ rank r (t d)) where
@@ -86,16 +89,28 @@ module _ {n : ℕ} {key : Cell → ℕ} {v : ℕ} {r : ℕ → ℕ} {t u : ℕ �
           let h′ = ahead→ (readyIn n u) (u l) (u d) (w .0) in
           →ahead r (t d) (t k) (p .1) (cc (w .2)) (last k i y)
 
+      both-sides : (k : ℕ) → k < n → So (A (u k)) → So (isAhead r (t d) (t k)) ⊎ So (comes t u ((u l) .input .0) k)
+      both-sides k i y = ⊎-elim (λ z. inl (ranked k i z)) (λ z. inr z) (side k i y)
+
       many : count (λ k. A (u k)) n ≤ count (λ k. isAhead r (t d) (t k)) n + g
-      many = omega (arith, m .few ((u l) .input .0), count-either (λ k. A (u k)) (λ k. isAhead r (t d) (t k)) (comes t u ((u l) .input .0)) n λ k i y. ⊎-elim (λ z. inl (ranked k i z)) (λ z. inr z) (side k i y))
+      many =
+          let i = (u l) .input .0 in
+          omega (arith, m .few i, count-either (λ k. A (u k)) (λ k. isAhead r (t d) (t k)) (comes t u i) n both-sides)
 
       lower : readyIn n t ((t d) .output .0) ≤ readyIn n u ((u l) .output .0) + e
-      lower = let w = was d hd od in omega (arith, m .loses ((t d) .output .0), ahead→ (readyIn n u) (u l) (u d) (w .0) .2, m .bounded l hl wl, ap (λ (y : Cell). readyIn n u (y .output .0)) (w .2))
+      lower =
+          let w = was d hd od in
+          let same = ap (λ (y : Cell). readyIn n u (y .output .0)) (w .2) in
+          omega (arith, m .loses ((t d) .output .0), ahead→ (readyIn n u) (u l) (u d) (w .0) .2, m .bounded l hl wl, same)
+
+      -- what is younger than f was so already
+      was-younger : So (old f) → (k : ℕ) → k < n → So (isYounger key (u f) (u k)) → So (isYounger key (t f) (t k))
+      was-younger y k i z = subst₂ (λ a b. So (isYounger key a b)) (was f hf y .2) (m .ready k i (younger→ key (u f) (u k) z .0)) z
 
       lead : (j : ℕ) × (j < n) × So (isAhead r (t d) (t j)) × (count (λ k. isYounger key (u f) (u k)) n ≤ count (λ k. isYounger key (t j) (t k)) n)
       lead =
           ⊎-elim
-          (λ y. (f, hf, ranked f hf y, count-mono _ _ n λ k i z. subst₂ (λ a b. So (isYounger key a b)) (was f hf y .2) (m .ready k i (younger→ key (u f) (u k) z .0)) z))
+          (λ y. (f, hf, ranked f hf y, count-mono (λ k. isYounger key (u f) (u k)) (λ k. isYounger key (t f) (t k)) n (was-younger y)))
           (λ y. (d, hd, ranked d hd od, omega (arith, none y)))
           (side f hf hfl)
 
