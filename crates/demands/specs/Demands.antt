@@ -17,7 +17,8 @@ use Rattle.rules.specs.Answers.{Lists, lists, arrives, live}
 use Rattle.rules.specs.Phases.{arrival, readings, matchOf, phases, isEmitted}
 use Rattle.rules.specs.Calls.{State, Call, starts, slots, Answered, does, run}
 use Rattle.rules.specs.Model.{among, arrived, Slotted}
-use Rattle.rules.specs.Demands.{isAccepted, runsSlot, unbroken, callAt, stateAt, inhaled, atExhale, elders, emits, emitted, Leaves, brings, emissions, since, Ran, left}
+use Rattle.rules.specs.Demands.{isAccepted, runsSlot, unbroken, callAt, stateAt, inhaled, atExhale, elders, emits, emitted, Leaves}
+use Rattle.rules.specs.Demands.{brings, emissions, since, Ran, left}
 use Rattle.rules.specs.Examples.{zeros, arrivalsOf, bothSend, oneSends}
 use Rattle.ideal.specs.Fit.{→fit}
 use Rattle.ideal.specs.Cells.{live→}
@@ -25,7 +26,7 @@ use Rattle.ideal.specs.Calls.{slot-meets, slot-told}
 use Rattle.ideal.specs.Only.{slot-moves, slot-leaves}
 use Rattle.ideal.specs.Runs as Runs
 use Rattle.ideal.specs.Totals.{fresh-total}
-use Rattle.demands.specs.States.{by-age-ruled, good}
+use Rattle.demands.specs.States.{ageRule, by-age-ruled, Good, good}
 use Rattle.demands.specs.Departs as Departs
 use Rattle.demands.specs.Needs.{origin, example}
 
@@ -51,8 +52,8 @@ module _ (x : State) (ls : Lists) (accepted : So (isAccepted x (slots ls))) wher
   abbrev pub leaving : Cell → Bool
   leaving = among (isEmitted (x .numbers .ports) (step (x .numbers .speedup))) (step (x .numbers .speedup))
 
-  pub published : Slotted (x .numbers .speedup) (x .numbers .next) (arrived (x .numbers .ports) (x .numbers .next) (ls .arrivals)) moving leaving (cellsOf (x .table)) step
-      (cellsOf (does x (slots ls) .after .table))
+  pub published : Slotted (x .numbers .speedup) (x .numbers .next) (arrived (x .numbers .ports) (x .numbers .next) (ls .arrivals)) moving leaving
+      (cellsOf (x .table)) step (cellsOf (does x (slots ls) .after .table))
   unfolding inhaled
   published = rw (Runs.slot-does x ls accepted) (slot-meets (Runs.slot-accepts x ls accepted))
 
@@ -79,23 +80,29 @@ pub record LeavesOnTime (least : ℕ) : Type 0 where
       So (runsSlot y d) → Leaves c (s + k) (y .numbers) (does y d .exhaled)
 
 pub leaves-on-time : LeavesOnTime 3
-leaves-on-time = record { leaves = λ start wanted fresh earlier fast. Departs.departs (run start (starts wanted ∷ earlier)) (good by-age-ruled start wanted fresh earlier) fast }
+leaves-on-time = record {
+  leaves = λ start wanted fresh earlier fast. Departs.departs (run start (starts wanted ∷ earlier)) (good by-age-ruled start wanted fresh earlier) fast;
+}
 
 -- "So demand 3 needs its speedup."
 pub needs-speedup : LeavesOnTime 1 → ⊥
 needs-speedup h =
     refuted
-    (h .leaves origin (switch 2 1 9) (example .starts-fresh) (arrivalsOf 2 1 bothSend ∷ []) (omega (arith, example .speedup)) (lists oneSends (zeros 2) (zeros 8)) (example .accepted) 1
-    (omega (arith, example .ports)) (example .arrived) [] (example .whole) 0 (example .slot) .then (example .due) .0)
+    (h .leaves origin (switch 2 1 9) (example .starts-fresh) (arrivalsOf 2 1 bothSend ∷ []) (omega (arith, example .speedup))
+    (lists oneSends (zeros 2) (zeros 8)) (example .accepted) 1 (omega (arith, example .ports)) (example .arrived)
+    [] (example .whole) 0 (example .slot) .then (example .due) .0)
     (example .idle)
 
 module _ (start : State) (wanted : Switch) (fresh : So (isAccepted start (starts wanted))) (calls : List Call) where
   abbrev reached : State
   reached = run start (starts wanted ∷ calls)
 
+  holds : Good ageRule reached
+  holds = good by-age-ruled start wanted fresh calls
+
   -- the table is fit throughout, accepted and refused calls alike
   pub fit-throughout : So (fit (reached .numbers .ports) (reached .numbers .next) (cellsOf (reached .table)))
-  fit-throughout = →fit (reached .numbers .ports) (reached .numbers .next) (cellsOf (reached .table)) (good by-age-ruled start wanted fresh calls .fits)
+  fit-throughout = →fit (reached .numbers .ports) (reached .numbers .next) (cellsOf (reached .table)) (holds .fits)
 
   -- "Cells accepted since the fresh start, counted from the calls, equal cells emitted plus cells live."
   pub conserved : since brings 0 start (starts wanted ∷ calls) ≡ since emissions 0 start (starts wanted ∷ calls) + live (cellsOf (reached .table))
@@ -112,19 +119,19 @@ module _ (start : State) (wanted : Switch) (fresh : So (isAccepted start (starts
     -- "To be work-conserving, the switch must ensure that whenever there are any cells in the switch destined to output o at the beginning of an
     -- exhale phase b, output o exhales some cell during phase b." (report, 4.1)
     pub work-conserving : (k : ℕ) → k < length table → So (isLive (nth table k)) → So (emits shown (nth table k .output .0))
-    work-conserving k l w = Departs.slot-works reached ls accepted by-age-ruled (good by-age-ruled start wanted fresh calls) fast k l (live→ _ w)
+    work-conserving k l w = Departs.slot-works reached ls accepted by-age-ruled holds fast k l (live→ _ w)
 
     -- "To be order-conserving, the switch must ensure that whenever an output o exhales some cell c, there are no cells in the switch destined to
     -- output o that precede c according to the timestamp ordering." (report, 4.1)
-    pub order-conserving : (o : ℕ) → o < reached .numbers .ports → So (emits shown o) → (k : ℕ) → k < length table → So (isLive (nth table k)) → nth table k .output .0 ≡ o
-        → No (older (nth table k) (emitted shown o))
-    order-conserving o m e k l w q = Departs.slot-orders reached ls accepted (good by-age-ruled start wanted fresh calls) fast o m e k l (live→ _ w) q
+    pub order-conserving : (o : ℕ) → o < reached .numbers .ports → So (emits shown o) → (k : ℕ) → k < length table → So (isLive (nth table k))
+        → nth table k .output .0 ≡ o → No (older (nth table k) (emitted shown o))
+    order-conserving o m e k l w q = Departs.slot-orders reached ls accepted holds fast o m e k l (live→ _ w) q
 
 -- One principle for runs: what an accepted fresh start makes and every accepted slot keeps holds throughout, since a refused call changes nothing.
 pub throughout : (P : State → Type 0) → ((x : State) (w : Switch) → So (isAccepted x (starts w)) → P (does x (starts w) .after))
     → ((x : State) (ls : Lists) → So (isAccepted x (slots ls)) → P x → P (does x (slots ls) .after))
     → (start : State) (wanted : Switch) → So (isAccepted start (starts wanted)) → (calls : List Call) → P (run start (starts wanted ∷ calls))
-throughout P made kept = Runs.throughout P kept made
+throughout P made kept = Runs.from-fresh P kept made
 
 -- A program whose calls each met their contract, on what the one before left, is such a run: its states and its lists are those of the rules.
 pub program-runs : (x : State) (calls : List Call) (gave : List Answered) → Ran x calls gave

@@ -22,7 +22,7 @@ use Rattle.ideal.specs.Fit.{Fit}
 use Rattle.ideal.specs.Phases.{phasesBy, phases-by}
 use Rattle.ideal.specs.Inhale.{inhale-is}
 use Rattle.ideal.specs.Calls.{Accepted, full, entered-fit, slot-cells, slot-fit, fresh-fit}
-use Rattle.ideal.specs.Runs.{KeptBySlots, MadeByStarts, slot-accepts, slot-does, start-does, throughout}
+use Rattle.ideal.specs.Runs.{KeptBySlots, MadeByStarts, slot-accepts, slot-does, start-does, from-fresh}
 use Rattle.demands.specs.Policy.{Policy, by-age}
 use Rattle.demands.specs.Led.{Led}
 use Rattle.demands.specs.Slots.{Rest, Entry, slot-leads, slot-rests}
@@ -92,4 +92,4 @@ module _ {rule : Switch → Policy} where
         })
 
     pub good : (start : State) (wanted : Switch) → So (isAccepted start (starts wanted)) → (calls : List Call) → Good rule (run start (starts wanted ∷ calls))
-    good = throughout (Good rule) good-kept good-made
+    good = from-fresh (Good rule) good-kept good-made

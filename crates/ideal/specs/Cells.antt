@@ -13,7 +13,8 @@ use Rattle.laws.specs.Tests.{No, passes, refuted, both, join, either, on-left, 
 use Rattle.laws.specs.Order.{Strict, Ranks, lower, lower-tie, lower-ranks, ltb-ranks, ranks-on}
 use Rattle.rules.specs.declared.Output.{Output}
 use Rattle.rules.specs.declared.Cell.{Cell}
-use Rattle.rules.specs.Cells.{width, fields, isFree, isWaiting, isReady, isLive, isReadyFor, sameInput, sameOutput, sameSlot, sameEntry, older, readingFor, before, placed}
+use Rattle.rules.specs.Cells.{width, fields, placed, isFree, isWaiting, isReady, isLive, isReadyFor}
+use Rattle.rules.specs.Cells.{sameInput, sameOutput, sameSlot, sameEntry, older, readingFor, before}
 use Rattle.rules.specs.Phases.{conflict}
 use Rattle.rules.specs.Model.{same}
 use Rattle.words.specs.Words.{cell-ext}

@@ -94,7 +94,8 @@ module _ (n : ℕ) (cs : List Cell) where
 
 pub exhale-fit : {n : ℕ} {t : Slot} {cs : List Cell} → Fit n t cs → Fit n t (exhale n cs)
 exhale-fit {n} {t} {cs} f =
-    fit-part f (length-exhale n cs) (λ k l. ⊎-elim (λ x. inl (exhale-freed n cs k l x)) (λ x. kept k l x (eq-zero-or-pos (nth cs k .place))) (passes (isEmitted n cs k)))
+    fit-part f (length-exhale n cs)
+    (λ k l. ⊎-elim (λ x. inl (exhale-freed n cs k l x)) (λ x. kept k l x (eq-zero-or-pos (nth cs k .place))) (passes (isEmitted n cs k)))
   where
     kept : (k : ℕ) → k < length cs → No (isEmitted n cs k) → (nth cs k .place ≡ 0) ⊎ (0 < nth cs k .place)
         → (nth (exhale n cs) k ≡ free) ⊎ Stays (nth cs k) (nth (exhale n cs) k)

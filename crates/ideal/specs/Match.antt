@@ -25,7 +25,8 @@ use Rattle.rules.specs.declared.Cell.{Cell}
 use Rattle.rules.specs.Cells.{nth, outputOf, isWaiting, sameInput, sameOutput, before}
 use Rattle.rules.specs.Phases.{conflict, isOpen, firstOpen, none, add, addFound, round, matchOf, isTakenInput, isTakenOutput, moves, servedWord, matchWords}
 use Rattle.rules.specs.Model.{Match, same}
-use Rattle.ideal.specs.Cells.{waiting→, →waiting, by-output, conflict-self, conflict-sym, same→, same-self, same-refl, before-strict, before-same, before-other}
+use Rattle.ideal.specs.Cells.{waiting→, →waiting, by-output, conflict-self, conflict-sym}
+use Rattle.ideal.specs.Cells.{same→, same-self, same-refl, before-strict, before-same, before-other}
 use Rattle.ideal.specs.Fit.{Fit, untied}
 
 -- A set with one more ---------------------------------------------------------------------------

@@ -17,7 +17,7 @@ use Rattle.rules.specs.Cells.{free, nth, isWaiting, isReady, sameInput, sameOut
 use Rattle.rules.specs.Answers.{arrives}
 use Rattle.rules.specs.Phases.{arrival, conflict, moved, isEmitted, exhale}
 use Rattle.rules.specs.Model.{Match, same, among, inputBuffer, outputBuffer, arrived, Initial, Inhale, Transfer, Exhale}
-use Rattle.ideal.specs.Cells.{place≡, waiting→, →waiting, ready→, →ready, →readyFor, conflict→, by-input, by-output, conflict-sym}
+use Rattle.ideal.specs.Cells.{place≡, waiting→, →waiting, ready→, →ready, →readyFor, conflict→, by-input, by-output}
 use Rattle.ideal.specs.Cells.{same→, same-self, same-refl, same-sym, same-trans, same-placed, older-same, older-tie, before-same}
 use Rattle.ideal.specs.Fit.{Fit}
 use Rattle.ideal.specs.Phases.{length-moved, moved-yes, moved-no}
@@ -91,8 +91,11 @@ unfolding sameSlot
 slot-eq c t h = eq-eqb _ _ h
 
 -- conflict goes by the cell
-conflict-same : (b c d : Cell) → So (same c d) → So (conflict b c) → So (conflict b d)
-conflict-same b c d s h = let q = same→ c d s in ⊎-elim (λ e. by-input b d (omega arith)) (λ e. by-output b d (omega arith)) (conflict→ b c h)
+conflict-same : (b b′ c c′ : Cell) → So (same b b′) → So (same c c′) → So (conflict b c) → So (conflict b′ c′)
+conflict-same b b′ c c′ r s h =
+    let p = same→ b b′ r in
+    let q = same→ c c′ s in
+    ⊎-elim (λ e. by-input b′ c′ (omega arith)) (λ e. by-output b′ c′ (omega arith)) (conflict→ b c h)
 
 -- 2.7 --------------------------------------------------------------------------------------------
 
@@ -186,7 +189,7 @@ module _ {n : ℕ} {t : Slot} {cs : List Cell} (f : Fit n t cs) {r : List ℕ} {
   one-cell c d x y clash =
       let j = among→ m cs c x in
       let k = among→ m cs d y in
-      let b = conflict-same (nth cs (j .0)) d (nth cs (k .0)) (same-sym _ d (k .3)) (conflict-sym d _ (conflict-same d c _ (same-sym _ c (j .3)) (conflict-sym c d clash))) in
+      let b = conflict-same c (nth cs (j .0)) d (nth cs (k .0)) (same-sym _ c (j .3)) (same-sym _ d (k .3)) clash in
       let e : j .0 ≡ k .0 = a .apart (j .0) (k .0) (j .1) (k .1) (j .2) (k .2) b in
       same-trans c (nth cs (j .0)) d (same-sym _ c (j .3)) (rw e (k .3))
 
@@ -242,7 +245,7 @@ module _ {n : ℕ} {t : Slot} {cs : List Cell} (f : Fit n t cs) {r : List ℕ} {
       let b : Cell = nth cs (d .0) in (
         b,
         →among m cs b (d .0) (d .1) (d .2) (same-refl b),
-        conflict-same b (nth cs (k .0)) c (k .3) (d .3),
+        conflict-same b b (nth cs (k .0)) c (same-refl b) (k .3) (d .3),
         sym (before-same r b b (nth cs (k .0)) c (same-self b) (same→ _ c (k .3))) ∙ d .4,
       )
 

@@ -51,7 +51,9 @@ module _ (x : State) (w : Switch) where
   start-says : isAccepted x (starts w) ≡ isDone (freshAnswer w (x .table))
   unfolding isAccepted does isDone
   start-says =
-      ⊎-elim (λ h. ap (λ (s : Started). isDone (s .answer)) (fresh-accepted w (x .table) h) ∙ sym h) (λ h. ap (λ (s : Started). isDone (s .answer)) (fresh-refused w (x .table) h)) (passes (isDone (freshAnswer w (x .table))))
+      ⊎-elim (λ h. ap (λ (s : Started). isDone (s .answer)) (fresh-accepted w (x .table) h) ∙ sym h)
+      (λ h. ap (λ (s : Started). isDone (s .answer)) (fresh-refused w (x .table) h))
+      (passes (isDone (freshAnswer w (x .table))))
 
   pub start-accepts : So (isAccepted x (starts w)) → So (isDone (freshAnswer w (x .table)))
   start-accepts h = sym start-says ∙ h
@@ -64,7 +66,8 @@ module _ (x : State) (w : Switch) where
   unfolding does
   start-leaves h =
       let k : No (isDone (freshAnswer w (x .table))) = sym start-says ∙ h in
-      ap (λ (s : Started). byStart (x .numbers) s .after) (fresh-refused w (x .table) k) ∙ λ i. record { numbers = cond-false _ w (x .numbers) k i; table = x .table }
+      ap (λ (s : Started). byStart (x .numbers) s .after) (fresh-refused w (x .table) k)
+      ∙ λ i. record { numbers = cond-false _ w (x .numbers) k i; table = x .table }
 
 -- a refused call changes nothing
 pub refused-leaves : (x : State) (c : Call) → No (isAccepted x c) → does x c .after ≡ x
@@ -100,7 +103,9 @@ module _ (P : State → Type 0) (kept : KeptBySlots P) where
   pub stretch : (x : State) (calls : List Call) → So (unbroken x calls) → P x → P (run x calls)
   unfolding unbroken run
   stretch x [] u p = p
-  stretch x (c ∷ cs) u p = let b = both (not (restarts x c)) _ u in stretch (does x c .after) cs (b .1) (call-keeps x c (λ h. absurd (refuted h (denied _ (b .0)))) p)
+  stretch x (c ∷ cs) u p =
+      let b = both (not (restarts x c)) _ u in
+      stretch (does x c .after) cs (b .1) (call-keeps x c (λ h. absurd (refuted h (denied _ (b .0)))) p)
 
   -- and before each of them
   pub stretch-at : (x : State) (calls : List Call) → So (unbroken x calls) → P x → (j : ℕ) → P (stateAt x calls j)
@@ -119,9 +124,9 @@ module _ (P : State → Type 0) (kept : KeptBySlots P) where
     through x (c ∷ cs) p = through (does x c .after) cs (call-keeps x c (restarts-make x c) p)
 
     -- "a run from one accepted fresh start": whatever the state before it, and whatever the calls after it
-    pub throughout : (x : State) (w : Switch) → So (isAccepted x (starts w)) → (calls : List Call) → P (run x (starts w ∷ calls))
+    pub from-fresh : (x : State) (w : Switch) → So (isAccepted x (starts w)) → (calls : List Call) → P (run x (starts w ∷ calls))
     unfolding run
-    throughout x w h calls = through (does x (starts w) .after) calls (made x w h)
+    from-fresh x w h calls = through (does x (starts w) .after) calls (made x w h)
 
 -- Programs ---------------------------------------------------------------------------------------
 
@@ -139,10 +144,12 @@ ran-left x [] (a ∷ l) r = absurd r
 ran-left x (c ∷ cs) [] r = absurd r
 ran-left x (c ∷ cs) (a ∷ l) r = ran-left (a .after) cs l (r .1) ∙ ap (λ (b : Answered). run (b .after) cs) (met-does x c a (r .0))
 
-pub ran-answers : (x : State) (calls : List Call) (l : List Answered) → Ran x calls l → (d : Answered) (j : ℕ) → j < length calls → getD l j d ≡ does (stateAt x calls j) (callAt calls j)
+pub ran-answers : (x : State) (calls : List Call) (l : List Answered) → Ran x calls l → (d : Answered) (j : ℕ) → j < length calls
+    → getD l j d ≡ does (stateAt x calls j) (callAt calls j)
 unfolding stateAt run
 ran-answers x [] [] r d j m = absurd (omega arith)
 ran-answers x [] (a ∷ l) r d j m = absurd r
 ran-answers x (c ∷ cs) [] r d j m = absurd r
 ran-answers x (c ∷ cs) (a ∷ l) r d zero m = met-does x c a (r .0)
-ran-answers x (c ∷ cs) (a ∷ l) r d (suc j) m = ran-answers (a .after) cs l (r .1) d j (omega arith) ∙ ap (λ (b : Answered). does (stateAt (b .after) cs j) (callAt cs j)) (met-does x c a (r .0))
+ran-answers x (c ∷ cs) (a ∷ l) r d (suc j) m =
+    ran-answers (a .after) cs l (r .1) d j (omega arith) ∙ ap (λ (b : Answered). does (stateAt (b .after) cs j) (callAt cs j)) (met-does x c a (r .0))
