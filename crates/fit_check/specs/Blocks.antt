@@ -14,12 +14,12 @@ use lib.Seq.{getD-take, getD-drop, length-take-le}
 use borrow.Author.Tests.{eqb-true, eqb-false, eq-eqb, ltb-true, ltb-false}
 use Rattle.laws.specs.Bits.{or-none}
 use Rattle.laws.specs.Tests.{No, both, passes, to-no, to-so, cond-true}
-use Rattle.laws.specs.Sifted.{Sifted, Eight, past, eights-between, eights-behind}
+use Rattle.laws.specs.Sifted.{Sifted, Block, past, blocks-between, blocks-behind}
 use Rattle.rules.specs.declared.Cell.{Cell}
 use Rattle.rules.specs.declared.Slot.{Slot}
 use Rattle.rules.specs.Cells.{free, nth, isFree, isLive, isBlank, isSound, width, records, cellsOf}
 use Rattle.words.specs.Words.{nth-cellsOf, in-words}
-use Rattle.sift.specs.Kinds.{BlockLacks}
+use Rattle.sift.specs.Stretch.{block, BlockLacks}
 
 -- r is 0 only where every word is
 pub record OrOf (ws : List ℕ) (r : ℕ) : Type 0 where
@@ -37,7 +37,7 @@ Free ws k x = nth (cellsOf ws) (k + x) ≡ free
 
 -- and so are the eight records of its block b
 abbrev pub BlockFree : List ℕ → ℕ → ℕ → Type 0
-BlockFree ws k = Eight (Free ws k)
+BlockFree ws k = Block block (Free ws k)
 
 -- whose places lack all bits
 pub free-lacks : (ws : List ℕ) (k bits b : ℕ) → BlockFree ws k b → BlockLacks ws k bits b
@@ -78,10 +78,10 @@ module _ (ws : List ℕ) (k : ℕ) {blocks : List ℕ} {m n : ℕ} (d : Sifted (
   from-start x l h = let e : k + (x - k) ≡ x = omega arith in rw e at h
 
   pub free-between : (j : ℕ) → j < m → (x : ℕ) → k + past blocks j * 8 ≤ x → x < k + getD blocks j 0 * 8 → nth (cellsOf ws) x ≡ free
-  free-between j l x a b = from-start x (omega arith) (eights-between (Free ws k) d j l (x - k) (omega arith) (omega arith))
+  free-between j l x a b = from-start x (omega arith) (blocks-between block (omega arith) (Free ws k) d j l (x - k) (omega arith) (omega arith))
 
   pub free-behind : (x : ℕ) → k + past blocks m * 8 ≤ x → x < k + n * 8 → nth (cellsOf ws) x ≡ free
-  free-behind x a b = from-start x (omega arith) (eights-behind (Free ws k) d (x - k) (omega arith) (omega arith))
+  free-behind x a b = from-start x (omega arith) (blocks-behind block (omega arith) (Free ws k) d (x - k) (omega arith) (omega arith))
 
 -- Stray words --------------------------------------------------------------------------------------
 

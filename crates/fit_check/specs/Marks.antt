@@ -23,7 +23,7 @@ use Rattle.words.specs.Words.{length-cellsOf, nth-cellsOf}
 use Rattle.ports.specs.Ports.{has, Added}
 use Rattle.table.specs.Table.{not-live}
 use Rattle.fit_check.specs.Blocks.{free-not-live, Strays}
-use Rattle.sift.specs.Kinds.{Lacks, walk-to, walk-end}
+use Rattle.sift.specs.Stretch.{Lacks, walk-to, walk-end}
 
 abbrev rowOf : Cell → ℕ
 rowOf c = c .entered .0 % 1024

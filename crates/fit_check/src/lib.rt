@@ -9,7 +9,7 @@ ghost use lib.ListN.{length};
 ghost use Rattle.laws.specs.Tests.{No};
 ghost use Rattle.laws.specs.Sifted.{Sifted};
 ghost use Rattle.rules.specs.Cells.{records, cellsOf, isBlank, isSound, sameEntry, isAlone, fit};
-ghost use Rattle.sift.specs.Kinds.{Lacks};
+ghost use Rattle.sift.specs.Stretch.{Lacks};
 ghost use Rattle.fit_check.specs.Blocks.{OrOf, BlockFree, Stray, Strays};
 ghost use Rattle.fit_check.specs.Marks.{Seen, Marked, Passed};
 

@@ -15,7 +15,7 @@ use Rattle.laws.specs.Tests.{No, passes, refuted, denied, cond-true, cond-false
 use Rattle.laws.specs.Walk.{over-ind}
 use Rattle.laws.specs.Count.{bit, count, count-zero, count-suc, count-all, count-extra, count-more, count-either, count-one, count-prefix, count-le}
 use Rattle.laws.specs.Least.{Least, lowest-is}
-use Rattle.laws.specs.Lists.{stored}
+use Rattle.laws.specs.Lists.{set-cases}
 use Rattle.laws.specs.Order.{pred-below}
 use Rattle.laws.specs.declared.Found.{Found}
 use Rattle.laws.specs.declared.Found.the-variants.{At, Nothing}
@@ -57,10 +57,10 @@ live-store us k c l z w =
     here = rw (getD-set-same us k c free l) (→live c w)
 
     up : (j : ℕ) → j < length us → So (isLive (nth us j)) → So (isLive (nth (set us k c) j))
-    up j i x = ⊎-elim (λ s. rw (s .1) (→live c w)) (λ s. rw (s .1) x) (stored free us k c l j)
+    up j i x = ⊎-elim (λ s. rw (s .1) (→live c w)) (λ s. rw (s .1) x) (set-cases free us k c l j)
 
     side : (j : ℕ) → j < length us → So (isLive (nth (set us k c) j)) → So (isLive (nth us j)) ⊎ So (eqb j k)
-    side j i x = ⊎-elim (λ s. inr (eq-eqb j k (s .0))) (λ s. inl (rw (s .1) at x)) (stored free us k c l j)
+    side j i x = ⊎-elim (λ s. inr (eq-eqb j k (s .0))) (λ s. inl (rw (s .1) at x)) (set-cases free us k c l j)
 
 pub live-le : (us : List Cell) → live us ≤ length us
 unfolding live
@@ -113,7 +113,7 @@ module _ {t : Slot} {arrivals : List ℕ} {cs : List Cell} where
 
       -- a record other than k is as it was, and k holds c
       cases : (j : ℕ) → ((j ≡ k) × (nth (set us k c) j ≡ c)) ⊎ ((j ≡ k → ⊥) × (nth (set us k c) j ≡ nth us j))
-      cases j = stored free us k c l j
+      cases j = set-cases free us k c l j
 
       -- the record was free before the inhale
       was : nth cs k .place ≡ 0

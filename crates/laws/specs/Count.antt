@@ -156,6 +156,9 @@ module _ (p : ℕ → Bool) where
   count-le zero = omega arith
   count-le (suc n) = omega (arith, count-le n, bit-le (p n))
 
+  pub count-bound : {m n : ℕ} → m ≡ count p n → m ≤ n
+  count-bound {m} {n} e = omega (arith, count-le n)
+
   -- any two that pass are one
   pub count-one : (n : ℕ) → ((j k : ℕ) → j < n → k < n → So (p j) → So (p k) → j ≡ k) → count p n ≤ 1
   unfolding count over

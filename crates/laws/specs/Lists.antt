@@ -120,8 +120,8 @@ take-replicate (suc n) zero a h = absurd (omega arith)
 take-replicate {A} (suc n) (suc m) a h = ap (λ (l : List A). a ∷ l) (take-replicate n m a (omega arith))
 
 -- what stands at j after a store at k: what was stored, or what stood there
-pub stored : {A : Type 0} (d : A) (l : List A) (k : ℕ) (x : A) → k < length l → (j : ℕ) → ((j ≡ k) × (getD (set l k x) j d ≡ x)) ⊎ ((j ≡ k → ⊥) × (getD (set l k x) j d ≡ getD l j d))
-stored d l k x h j =
+pub set-cases : {A : Type 0} (d : A) (l : List A) (k : ℕ) (x : A) → k < length l → (j : ℕ) → ((j ≡ k) × (getD (set l k x) j d ≡ x)) ⊎ ((j ≡ k → ⊥) × (getD (set l k x) j d ≡ getD l j d))
+set-cases d l k x h j =
     ⊎-elim
     (λ b. let e : j ≡ k = eqb-true j k b in inl (e, rw e (getD-set-same l k x d h)))
     (λ b. inr (eqb-false j k b, getD-set-other l k j x d (eqb-false j k b)))

@@ -1,1 +1,1 @@
-pub mod Kinds
+pub mod Stretch

@@ -1,100 +1,108 @@
-// The records with a place, sifted down in one pass. No branch hangs on what stands in a record: one that goes either way costs more than a look
-// at eight records. So each number is written behind the last one that stays, and stays or is written over by the next.
-// A stretch of at most 256 records is looked at in two steps: which of its blocks of eight have such a record at all, then which records of those
-// blocks. Places are told by their bits; what is sifted is looked at again by whoever asked.
+// Which records of the table are waiting, ready or live, listed in one pass. No branch hangs on what stands in a record: one that goes either way
+// costs more than a look at eight records. So each number is written behind the last one that stays, and stays or is written over by the next.
+// A stretch of the table is looked at in two steps: which of its blocks have such a record at all, then which records of those blocks.
+// Places are told by their bits; whoever asked looks at the records listed again.
 ghost use mathlib.Core.Path.{_≡_};
 ghost use mathlib.Core.Bool.{not};
-ghost use Prim.Native.Nat.{ℕ, _+_, _-_, _*_, _/_, _<_, _≤_};
+ghost use Prim.Native.Nat.{ℕ, _+_, _-_, _*_, _/_, _<_, _≤_, min};
 ghost use lib.Dec.{eqb};
 ghost use lib.ListN.{length};
 ghost use Rattle.laws.specs.Count.{bit};
-ghost use Rattle.laws.specs.Sifted.{Sifted};
+ghost use Rattle.laws.specs.Sifted.{Sifted, Chosen};
 ghost use Rattle.rules.specs.Cells.{records};
-ghost use Rattle.sift.specs.Kinds.{Lacks, BlockLacks};
+ghost use Rattle.sift.specs.Stretch.{stretch, block, blockCount, Lacks, BlockLacks, has, Stretch, Listed};
 
-// The bits of the places: of waiting cells, of ready ones and of all live ones.
+// How many records are listed at a time, so that a number of one fits a byte; how many of them are looked at together; and how many such blocks a
+// stretch has.
+pub const STRETCH: usize = 256;
+
+pub const BLOCK: usize = 8;
+
+pub const BLOCKS: usize = STRETCH / BLOCK;
+
+// The bits of the places: of waiting cells, of ready ones and of all live ones; `waitingBit`, `readyBit` and `liveBits` of specs/.
 pub const WAITING: u32 = 1;
 
 pub const READY: u32 = 2;
 
 pub const LIVE: u32 = 4_294_967_295;
 
-// Where the stretch that begins at record k ends: 256 on, or with the last record.
+// Where the stretch that begins at record k of n ends: with the last record, if none too many are left.
 pub fn stretch_end(k: usize, n: usize) -> usize
     requires { ⌜ k < n ⌝ }
-    ensures { λ r. ⌜ (k < r) × (r ≤ n) × (r ≤ k + 256) ⌝ }
+    ensures { λ r. ⌜ r ≡ min (k + stretch) n ⌝ }
 {
-    if n - k < 256 {
+    if n - k < STRETCH {
         return n;
     }
-    k + 256
+    k + STRETCH
 }
 
+// 1 where x has a bit, without a branch for the caller.
 pub fn one_if_any(x: u32) -> usize
     ensures { λ r. ⌜ (r ≡ bit (not (eqb x 0))) × (r ≤ 1) ⌝ }
 {
     if x == 0 { 0 } else { 1 }
 }
 
-// What the places of the eight records from k on have of `bits`, all in one.
-fn any_of_eight(table: &[u32], k: usize, bits: u32) -> u32
-    requires { ⌜ k + 8 ≤ records (now table) ⌝ }
-    ensures { λ r. ⌜ (r ≡ 0 → (j : ℕ) → j < 8 → Lacks (now (table .entry)) k bits j) ⌝ }
+// What the places of the block of records from k on have of `bits`, all in one.
+fn any_of_block(table: &[u32], k: usize, bits: u32) -> u32
+    requires { ⌜ k + block ≤ records (now table) ⌝ }
+    ensures { λ r. ⌜ (r ≡ 0 → (j : ℕ) → j < block → Lacks (now (table .entry)) k bits j) ⌝ }
 {
     let mut any = 0;
     let mut j = 0;
-    while j < 8 {
-        any |= table[(k + j) * 5] & bits;
+    while j < BLOCK {
+        any |= table[(k + j) * rules::RECORD_WORDS] & bits;
         j += 1;
     }
     any
 }
 
-// Sieved the blocks in which some place has one of `bits`, of so many from record k on.
-fn sift_blocks(table: &[u32], k: usize, count: usize, bits: u32, blocks: &mut [u8; 32]) -> usize
-    requires { ⌜ k + count * 8 ≤ records (now table) ⌝ }
-    requires { ⌜ count ≤ 32 ⌝ }
-    requires { ⌜ length (now blocks) ≡ 32 ⌝ }
+// Lists the blocks in which some place has one of `bits`, of so many from record k on.
+fn sift_blocks(table: &[u32], k: usize, count: usize, bits: u32, blocks: &mut [u8; BLOCKS]) -> usize
+    requires { ⌜ k + count * block ≤ records (now table) ⌝ }
+    requires { ⌜ count ≤ blockCount ⌝ }
+    requires { ⌜ length (now blocks) ≡ blockCount ⌝ }
     ensures { λ r. ⌜ Sifted (BlockLacks (now (table .entry)) k bits) (now (blocks .exit)) r count ⌝ }
-    ensures { λ _. ⌜ length (now (blocks .exit)) ≡ 32 ⌝ }
+    ensures { λ _. ⌜ length (now (blocks .exit)) ≡ blockCount ⌝ }
 {
     let mut found = 0;
     let mut b = 0;
     while b < count {
         blocks[found] = b as u8;
-        found += one_if_any(any_of_eight(table, k + b * 8, bits));
+        found += one_if_any(any_of_block(table, k + b * BLOCK, bits));
         b += 1;
     }
     found
 }
 
-// Sieved the records with one of `bits`, from number `from` to number `to` of the stretch, behind those below.
+// Lists the records with one of `bits` from number `from` to number `to` of the stretch, behind those below.
 fn sift_between(
     table: &[u32],
     k: usize,
     from: usize,
     to: usize,
     bits: u32,
-    list: &mut [u8; 256],
+    list: &mut [u8; STRETCH],
     found: usize,
 ) -> usize
-    requires { ⌜ (from ≤ to) × (to ≤ 256) × (k + to ≤ records (now table)) ⌝ }
-    requires { ⌜ length (now list) ≡ 256 ⌝ }
-    requires { ⌜ Sifted (Lacks (now table) k bits) (now list) found from ⌝ }
-    ensures { λ r. ⌜ Sifted (Lacks (now (table .entry)) k bits) (now (list .exit)) r to ⌝ }
-    ensures { λ _. ⌜ length (now (list .exit)) ≡ 256 ⌝ }
+    requires { ⌜ (from ≤ to) × (to ≤ stretch) × (k + to ≤ records (now table)) ⌝ }
+    requires { ⌜ Listed (now table) k from bits (now list) found ⌝ }
+    ensures { λ r. ⌜ Listed (now (table .entry)) k to bits (now (list .exit)) r ⌝ }
 {
     let mut next = found;
     let mut x = from;
     while x < to {
         list[next] = x as u8;
-        next += one_if_any(table[(k + x) * 5] & bits);
+        next += one_if_any(table[(k + x) * rules::RECORD_WORDS] & bits);
         x += 1;
     }
     next
 }
 
-// Sieved the records with one of `bits` in some blocks of a stretch, and in what is left behind its last block.
+// Lists the records with one of `bits` in some blocks of a stretch, and in what is left behind its last block. What stands in the list behind those
+// numbers is left open.
 pub fn sift_within(
     table: &[u32],
     k: usize,
@@ -102,34 +110,39 @@ pub fn sift_within(
     bits: u32,
     blocks: &[u8],
     count: usize,
-    list: &mut [u8; 256],
+    list: &mut [u8; STRETCH],
 ) -> usize
-    requires { ⌜ (size ≤ 256) × (k + size ≤ records (now table)) ⌝ }
-    requires { ⌜ (count ≤ length (now blocks)) × (length (now list) ≡ 256) ⌝ }
-    requires { ⌜ Sifted (BlockLacks (now table) k bits) (now blocks) count (size / 8) ⌝ }
-    ensures { λ r. ⌜ Sifted (Lacks (now (table .entry)) k bits) (now (list .exit)) r size ⌝ }
-    ensures { λ _. ⌜ length (now (list .exit)) ≡ 256 ⌝ }
+    requires { ⌜ (size ≤ stretch) × (k + size ≤ records (now table)) ⌝ }
+    requires { ⌜ (count ≤ length (now blocks)) × (length (now list) ≡ stretch) ⌝ }
+    requires { ⌜ Sifted (BlockLacks (now table) k bits) (now blocks) count (size / block) ⌝ }
+    ensures { λ r. ⌜ Listed (now (table .entry)) k size bits (now (list .exit)) r ⌝ }
 {
     let mut found = 0;
     let mut j = 0;
     while j < count {
-        let from = (blocks[j] as usize) * 8;
-        found = sift_between(table, k, from, from + 8, bits, list, found);
+        let from = (blocks[j] as usize) * BLOCK;
+        found = sift_between(table, k, from, from + BLOCK, bits, list, found);
         j += 1;
     }
-    let rest = size / 8 * 8;
+    let rest = size / BLOCK * BLOCK;
     sift_between(table, k, rest, size, bits, list, found)
 }
 
-// Sieved the records with one of `bits` in the stretch from record k to record `end`, numbered from k on.
-pub fn sift_records(table: &[u32], k: usize, end: usize, bits: u32, list: &mut [u8; 256]) -> usize
-    requires { ⌜ (k ≤ end) × (end ≤ records (now table)) × (end ≤ k + 256) ⌝ }
-    requires { ⌜ length (now list) ≡ 256 ⌝ }
-    ensures { λ r. ⌜ Sifted (Lacks (now (table .entry)) k bits) (now (list .exit)) r (end - k) ⌝ }
-    ensures { λ _. ⌜ length (now (list .exit)) ≡ 256 ⌝ }
+// Lists the records with one of `bits` in the stretch from record k to record `end`, numbered from k on; gives how many they are. What stands in the
+// list behind those numbers is left open.
+pub fn sift_records(
+    table: &[u32],
+    k: usize,
+    end: usize,
+    bits: u32,
+    list: &mut [u8; STRETCH],
+) -> usize
+    requires { ⌜ Stretch (now table) k end ⌝ }
+    requires { ⌜ length (now list) ≡ stretch ⌝ }
+    ensures { λ r. ⌜ Listed (now (table .entry)) k (end - k) bits (now (list .exit)) r ⌝ }
 {
     let size = end - k;
-    let mut blocks = [0u8; 32];
-    let count = sift_blocks(table, k, size / 8, bits, &mut blocks);
+    let mut blocks = [0u8; BLOCKS];
+    let count = sift_blocks(table, k, size / BLOCK, bits, &mut blocks);
     sift_within(table, k, size, bits, &blocks, count, list)
 }

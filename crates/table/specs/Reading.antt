@@ -1,6 +1,6 @@
 -- The reading, counted record by record, and the oldest ready cell: passes over the ready records alone.
 -- Assumes nothing.
-use Prim.Native.Nat.{ℕ, _+_, _-_, _%_, _≤_, _<_}
+use Prim.Native.Nat.{ℕ, _+_, _%_, _≤_, _<_}
 use mathlib.Core.Path.{_≡_, refl, sym, ap, _∙_}
 use mathlib.Core.Logic.{⊎-elim}
 use mathlib.Core.Bool.{Bool, true, false, cond, _&&_, and-true}
@@ -15,15 +15,15 @@ use borrow.Author.Tests.{eqb-true, eqb-false, eq-eqb, ne-eqb, ltb-true, ltb-fals
 use Rattle.laws.specs.Tests.{No, both, passes, to-no}
 use Rattle.laws.specs.Count.{bit, count, count-zero, count-suc, count-le}
 use Rattle.laws.specs.Lists.{tabulate, length-tabulate, getD-tabulate, tabulate-same, tabulate-getD, set-tabulate}
-use Rattle.laws.specs.Least.{least, least-more, sooner-skip}
+use Rattle.laws.specs.Least.{sooner, least, least-more, sooner-skip}
 use Rattle.laws.specs.Bits.{and-none}
-use Rattle.laws.specs.Sifted.{Sifted, past}
 use Rattle.laws.specs.declared.Found.{Found}
 use Rattle.rules.specs.declared.Cell.{Cell}
 use Rattle.rules.specs.declared.Output.{Output}
-use Rattle.rules.specs.Cells.{mostPorts, outputOf, nth, cellsOf, isReady, sameOutput, isReadyFor, older}
+use Rattle.rules.specs.Cells.{mostPorts, outputOf, nth, records, cellsOf, isReady, sameOutput, isReadyFor}
 use Rattle.rules.specs.Phases.{readyCount, readings}
-use Rattle.sift.specs.Kinds.{Lacks, walk-to, walk-end}
+use Rattle.sift.specs.Stretch.{readyBit}
+use Rattle.table.specs.Table.{olderAt}
 
 -- a cell that is ready for some output
 unfoldable pub isCounted : Cell → Bool
@@ -39,7 +39,7 @@ module _ (ns : List ℕ) (e : length ns ≡ mostPorts) (c : Cell) where
   unfolding bumped
   bump-none h = sym (tabulate-same 0 _ (λ o. getD ns o 0) mostPorts (λ o l. rw (h o l) (omega arith)) ∙ rw e at (tabulate-getD 0 ns))
 
-  pub not-ready : (c .place ≡ 2 → ⊥) → ns ≡ bumped ns c
+  not-ready : (c .place ≡ 2 → ⊥) → ns ≡ bumped ns c
   unfolding isReadyFor isReady
   not-ready h = bump-none (λ o l. rw (ne-eqb _ _ h))
 
@@ -65,17 +65,17 @@ module _ (ns : List ℕ) (e : length ns ≡ mostPorts) (c : Cell) where
       go o false q = rw (ne-eqb (c .output .0) o (λ h. eqb-false _ _ q (sym h))) (there (isReady c) (getD ns o 0))
 
   -- the code's count, at a number that is an output's in any case
-  pub bump-one : set ns (c .output .0 % 16) (getD ns (c .output .0 % 16) 0 + bit (isCounted c)) ≡ bumped ns c
+  pub bump-one : set ns (c .output .0 % mostPorts) (getD ns (c .output .0 % mostPorts) 0 + bit (isCounted c)) ≡ bumped ns c
   unfolding isCounted
   bump-one = ⊎-elim (λ x. small (ltb-true _ _ x) x) (λ x. large (ltb-false _ _ x) x) (passes (ltb (c .output .0) mostPorts))
     where
-      small : c .output .0 < mostPorts → ltb (c .output .0) mostPorts ≡ true → set ns (c .output .0 % 16) (getD ns (c .output .0 % 16) 0 + bit (isReady c && ltb (c .output .0) mostPorts)) ≡ bumped ns c
-      small l x = let q : c .output .0 % 16 ≡ c .output .0 = omega arith in rw (q, x, and-true (isReady c)) one-more
+      small : c .output .0 < mostPorts → ltb (c .output .0) mostPorts ≡ true → set ns (c .output .0 % mostPorts) (getD ns (c .output .0 % mostPorts) 0 + bit (isReady c && ltb (c .output .0) mostPorts)) ≡ bumped ns c
+      small l x = let q : c .output .0 % mostPorts ≡ c .output .0 = omega arith in rw (q, x, and-true (isReady c)) one-more
 
-      large : mostPorts ≤ c .output .0 → ltb (c .output .0) mostPorts ≡ false → set ns (c .output .0 % 16) (getD ns (c .output .0 % 16) 0 + bit (isReady c && ltb (c .output .0) mostPorts)) ≡ bumped ns c
+      large : mostPorts ≤ c .output .0 → ltb (c .output .0) mostPorts ≡ false → set ns (c .output .0 % mostPorts) (getD ns (c .output .0 % mostPorts) 0 + bit (isReady c && ltb (c .output .0) mostPorts)) ≡ bumped ns c
       large l x =
-          let z : getD ns (c .output .0 % 16) 0 + bit (isReady c && false) ≡ getD ns (c .output .0 % 16) 0 = let d = there (isReady c) (getD ns (c .output .0 % 16) 0) in omega arith in
-          rw (x, z) (set-getD ns (c .output .0 % 16) 0 ∙ no-such-output l)
+          let z : getD ns (c .output .0 % mostPorts) 0 + bit (isReady c && false) ≡ getD ns (c .output .0 % mostPorts) 0 = let d = there (isReady c) (getD ns (c .output .0 % mostPorts) 0) in omega arith in
+          rw (x, z) (set-getD ns (c .output .0 % mostPorts) 0 ∙ no-such-output l)
 
 -- the ready cells of output o below record k, and all outputs' counts of them
 abbrev readyBelow : List Cell → ℕ → ℕ → ℕ
@@ -89,7 +89,7 @@ module _ (cs : List Cell) where
   unfolding readingsBelow
   at-output k o l = getD-tabulate (readyBelow cs k) mostPorts 0 o l
 
-  pub length-readings : (k : ℕ) → length (readingsBelow cs k) ≡ mostPorts
+  length-readings : (k : ℕ) → length (readingsBelow cs k) ≡ mostPorts
   unfolding readingsBelow
   length-readings k = length-tabulate (readyBelow cs k) mostPorts
 
@@ -104,15 +104,14 @@ module _ (cs : List Cell) where
   readings-more k = tabulate-same 0 _ (readyBelow cs (k + 1)) mostPorts (λ o l. rw (at-output k o l, add-one k) (sym (count-suc _ k)))
 
   -- a record that is not ready changes no count
-  pub readings-skip : (k : ℕ) → (nth cs k .place ≡ 2 → ⊥) → readingsBelow cs k ≡ readingsBelow cs (k + 1)
+  readings-skip : (k : ℕ) → (nth cs k .place ≡ 2 → ⊥) → readingsBelow cs k ≡ readingsBelow cs (k + 1)
   readings-skip k h = not-ready (readingsBelow cs k) (length-readings k) (nth cs k) h ∙ readings-more k
 
   pub readings-all : readingsBelow cs (length cs) ≡ readings cs
   unfolding readingsBelow readings readyCount
   readings-all = refl
 
-  -- no count exceeds the records passed
-  pub readings-le : (k o : ℕ) → getD (readingsBelow cs k) o 0 ≤ k
+  readings-le : (k o : ℕ) → getD (readingsBelow cs k) o 0 ≤ k
   unfolding readingsBelow
   readings-le k o =
       ⊎-elim
@@ -120,31 +119,35 @@ module _ (cs : List Cell) where
       (λ l. rw (List·getD-eq-default (readingsBelow cs k) 0 {n = o} (rw (length-tabulate (readyBelow cs k) mostPorts) (ltb-false o mostPorts l))) (omega arith))
       (passes (ltb o mostPorts))
 
--- over what is sifted of a stretch: the records that are not sifted are not ready
-module _ (ws : List ℕ) {list : List ℕ} {k end m : ℕ} (d : Sifted (Lacks ws k 2) list m (end - k)) (l : k ≤ end) (ns : List ℕ) where
-  keeps : (x : ℕ) → k ≤ x → x < end → bitAnd (nth (cellsOf ws) x .place) 2 ≡ 0 → ns ≡ readingsBelow (cellsOf ws) x → ns ≡ readingsBelow (cellsOf ws) (x + 1)
-  keeps x f i h e = e ∙ readings-skip (cellsOf ws) x (and-none _ 2 (omega arith) h)
+-- a pass over the ready records of the table: the counts of those below record k
+pub record Counted (ws ns : List ℕ) (k : ℕ) : Type 0 where
+  pub are : ns ≡ readingsBelow (cellsOf ws) k
 
-  pub readings-to : (j : ℕ) → j < m → ns ≡ readingsBelow (cellsOf ws) (k + past list j) → ns ≡ readingsBelow (cellsOf ws) (k + getD list j 0)
-  readings-to = walk-to ws 2 d l (λ (x : ℕ). ns ≡ readingsBelow (cellsOf ws) x) keeps
+pub counted-keeps : {ws ns : List ℕ} (x : ℕ) → x < records ws → bitAnd (nth (cellsOf ws) x .place) readyBit ≡ 0 → Counted ws ns x → Counted ws ns (x + 1)
+counted-keeps {ws} x l h c = record { are = c .are ∙ readings-skip (cellsOf ws) x (and-none _ readyBit (omega arith) h) }
 
-  pub readings-end : ns ≡ readingsBelow (cellsOf ws) (k + past list m) → ns ≡ readingsBelow (cellsOf ws) end
-  readings-end = walk-end ws 2 d l (λ (x : ℕ). ns ≡ readingsBelow (cellsOf ws) x) keeps
+pub counted-long : {ws ns : List ℕ} {k : ℕ} → Counted ws ns k → length ns ≡ mostPorts
+counted-long {ws} {ns} {k} c = ap length (c .are) ∙ length-readings (cellsOf ws) k
 
--- of the ready cells of an output below record k, the first by age
+-- no count exceeds the records passed
+pub counted-le : {ws ns : List ℕ} {k : ℕ} → Counted ws ns k → (o : ℕ) → getD ns o 0 ≤ k
+counted-le {ws} {ns} {k} c o = rw (c .are) (readings-le (cellsOf ws) k o)
+
+-- Of the ready cells of an output the first by age, found record by record: what was found below record k, or record k
+abbrev pub olderReady : List Cell → Output → Found → ℕ → Found
+olderReady cs o found k = sooner (olderAt cs) found (isReadyFor o (nth cs k)) k
+
+-- of those below record k
 abbrev pub oldestBelow : List Cell → Output → ℕ → Found
-oldestBelow cs o k = least (λ i. isReadyFor o (nth cs i)) (λ i j. older (nth cs i) (nth cs j)) k
+oldestBelow cs o k = least (λ i. isReadyFor o (nth cs i)) (olderAt cs) k
 
 oldest-skip : (cs : List Cell) (o : Output) (k : ℕ) → (nth cs k .place ≡ 2 → ⊥) → oldestBelow cs o k ≡ oldestBelow cs o (k + 1)
 unfolding isReadyFor isReady
 oldest-skip cs o k h = sym (least-more _ _ k ∙ sooner-skip _ k (oldestBelow cs o k) _ (rw (ne-eqb _ _ h)))
 
-module _ (ws : List ℕ) {list : List ℕ} {k end m : ℕ} (d : Sifted (Lacks ws k 2) list m (end - k)) (l : k ≤ end) (o : Output) (found : Found) where
-  holds : (x : ℕ) → k ≤ x → x < end → bitAnd (nth (cellsOf ws) x .place) 2 ≡ 0 → found ≡ oldestBelow (cellsOf ws) o x → found ≡ oldestBelow (cellsOf ws) o (x + 1)
-  holds x f i h e = e ∙ oldest-skip (cellsOf ws) o x (and-none _ 2 (omega arith) h)
+-- and the same pass: what was found below record k
+pub record Oldest (ws : List ℕ) (o : Output) (found : Found) (k : ℕ) : Type 0 where
+  pub is : found ≡ oldestBelow (cellsOf ws) o k
 
-  pub oldest-to : (j : ℕ) → j < m → found ≡ oldestBelow (cellsOf ws) o (k + past list j) → found ≡ oldestBelow (cellsOf ws) o (k + getD list j 0)
-  oldest-to = walk-to ws 2 d l (λ (x : ℕ). found ≡ oldestBelow (cellsOf ws) o x) holds
-
-  pub oldest-end : found ≡ oldestBelow (cellsOf ws) o (k + past list m) → found ≡ oldestBelow (cellsOf ws) o end
-  oldest-end = walk-end ws 2 d l (λ (x : ℕ). found ≡ oldestBelow (cellsOf ws) o x) holds
+pub oldest-keeps : {ws : List ℕ} {o : Output} {found : Found} (x : ℕ) → x < records ws → bitAnd (nth (cellsOf ws) x .place) readyBit ≡ 0 → Oldest ws o found x → Oldest ws o found (x + 1)
+oldest-keeps {ws} {o} x l h c = record { is = c .is ∙ oldest-skip (cellsOf ws) o x (and-none _ readyBit (omega arith) h) }

@@ -1,4 +1,4 @@
-// The cell table as it is lent: flat words, five a record. What stands in a record, how it is changed, and what the scans find.
+// The cell table as it is lent, in flat words: what stands in a record, how it is changed, and what the scans find.
 // Only `record_count`, `is_whole`, `clear`, `cell_at`, `put_cell` and `set_place` know of words. The reading and the scan of the exhale look at no
 // record but the ready ones, which `sift` lists.
 use laws::Found;
@@ -9,26 +9,27 @@ use rules::Slot;
 ghost use mathlib.Core.Path.{_≡_};
 ghost use Prim.Native.Nat.{_%_, _<_, _≤_};
 ghost use lib.ListN.{length, getD, replicate};
-ghost use Rattle.laws.specs.Least.{Below, sooner};
+ghost use Rattle.laws.specs.Least.{Below};
 ghost use Rattle.laws.specs.Count.{bit};
 ghost use Rattle.laws.specs.First.{firstFound};
-ghost use Rattle.rules.specs.Cells.{free, placed, nth, records, isWhole, cellsOf, isReadyFor, older};
+ghost use Rattle.rules.specs.Cells.{mostPorts, mostRecords, free, placed, nth, records, isWhole, cellsOf, isReadyFor, older};
 ghost use Rattle.rules.specs.Answers.{live};
 ghost use Rattle.rules.specs.Phases.{lowestFree, readings, oldestReady};
 ghost use Rattle.table.specs.Table.{stored, NoneBelow, olderAt};
-ghost use Rattle.table.specs.Reading.{bumped, isCounted};
+ghost use Rattle.table.specs.Reading.{bumped, isCounted, olderReady};
 
+// How many whole records the words are.
 pub fn record_count(table: &[u32]) -> usize
     ensures { λ r. ⌜ r ≡ records (now (table .entry)) ⌝ }
 {
-    table.len() / 5
+    table.len() / rules::RECORD_WORDS
 }
 
 // Whether the words are whole records.
 pub fn is_whole(table: &[u32]) -> bool
     ensures { λ r. ⌜ r ≡ isWhole (now (table .entry)) ⌝ }
 {
-    table.len() % 5 == 0
+    table.len() % rules::RECORD_WORDS == 0
 }
 
 // Every word becomes 0.
@@ -47,7 +48,7 @@ pub fn cell_at(table: &[u32], k: usize) -> Cell
     requires { ⌜ k < records (now table) ⌝ }
     ensures { λ r. ⌜ r ≡ nth (cellsOf (now (table .entry))) k ⌝ }
 {
-    let at = k * 5;
+    let at = k * rules::RECORD_WORDS;
     Cell {
         place: table[at],
         input: Input(table[at + 1]),
@@ -62,7 +63,7 @@ pub fn put_cell(table: &mut [u32], k: usize, c: Cell)
     requires { ⌜ k < records (now table) ⌝ }
     ensures { λ _. ⌜ now (table .exit) ≡ stored (now (table .entry)) k c ⌝ }
 {
-    let at = k * 5;
+    let at = k * rules::RECORD_WORDS;
     table[at] = c.place;
     table[at + 1] = c.input.0;
     table[at + 2] = c.output.0;
@@ -70,12 +71,12 @@ pub fn put_cell(table: &mut [u32], k: usize, c: Cell)
     table[at + 4] = c.tag;
 }
 
-// Record k gets another place; its other four fields stay.
+// Record k gets another place; its other fields stay.
 pub fn set_place(table: &mut [u32], k: usize, place: u32)
     requires { ⌜ k < records (now table) ⌝ }
     ensures { λ _. ⌜ now (table .exit) ≡ stored (now (table .entry)) k (placed place (nth (cellsOf (now (table .entry))) k)) ⌝ }
 {
-    table[k * 5] = place;
+    table[k * rules::RECORD_WORDS] = place;
 }
 
 // Record k becomes free, all zeros.
@@ -97,7 +98,7 @@ pub fn free_record(table: &mut [u32], k: usize)
 }
 
 // Whether a stands before b by slot and then input.
-pub fn is_older(a: Cell, b: Cell) -> bool
+fn is_older(a: Cell, b: Cell) -> bool
     ensures { λ r. ⌜ r ≡ older a b ⌝ }
 {
     if a.entered.0 < b.entered.0 {
@@ -132,7 +133,8 @@ pub fn older_finding(table: &[u32], a: Found, b: Found) -> Found
     if k < j { Found::At(k) } else { Found::At(j) }
 }
 
-pub fn is_ready_for(c: Cell, o: Output) -> bool
+// Whether c is in the unit of output o.
+fn is_ready_for(c: Cell, o: Output) -> bool
     ensures { λ r. ⌜ r ≡ isReadyFor o c ⌝ }
 {
     if c.place == 2 {
@@ -159,6 +161,7 @@ pub fn next_free(table: &[u32], from: usize) -> Found
     Found::Nothing
 }
 
+// The lowest-numbered free record.
 pub fn lowest_free(table: &[u32]) -> Found
     ensures { λ r. ⌜ r ≡ lowestFree (cellsOf (now (table .entry))) ⌝ }
 {
@@ -169,7 +172,7 @@ pub fn lowest_free(table: &[u32]) -> Found
 fn older_of(table: &[u32], o: Output, found: Found, k: usize) -> Found
     requires { ⌜ k < records (now table) ⌝ }
     requires { ⌜ Below k found ⌝ }
-    ensures { λ r. ⌜ r ≡ sooner (λ i j. older (nth (cellsOf (now (table .entry))) i) (nth (cellsOf (now (table .entry))) j)) found (isReadyFor o (nth (cellsOf (now (table .entry))) k)) k ⌝ }
+    ensures { λ r. ⌜ r ≡ olderReady (cellsOf (now (table .entry))) o found k ⌝ }
 {
     let c = cell_at(table, k);
     if !is_ready_for(c, o) {
@@ -192,7 +195,7 @@ pub fn oldest_ready(table: &[u32], o: Output) -> Found
 {
     let n = record_count(table);
     let mut found = Found::Nothing;
-    let mut list = [0u8; 256];
+    let mut list = [0u8; sift::STRETCH];
     let mut k = 0;
     'stretches: while k < n {
         let end = sift::stretch_end(k, n);
@@ -226,38 +229,40 @@ pub fn live(table: &[u32]) -> usize
 
 // "The counts are read once, kept together for the slot": how many ready cells each output has.
 pub struct Reading {
-    pub counts: [u32; 16],
+    pub counts: [u32; rules::PORT_COUNT],
 }
 
+// 1 for a cell that is ready for some output, otherwise 0.
 fn one_if_counted(c: Cell) -> u32
     ensures { λ r. ⌜ r ≡ bit (isCounted c) ⌝ }
 {
     if c.place != 2 {
         return 0;
     }
-    if 16 <= c.output.0 {
+    if rules::MOST_PORTS <= c.output.0 {
         return 0;
     }
     1
 }
 
 // One more for the cell's output, where the cell is ready.
-fn bump(counts: &mut [u32; 16], c: Cell)
-    requires { ⌜ length (now counts) ≡ 16 ⌝ }
-    requires { ⌜ getD (now counts) (c .output .0 % 16) 0 < 1024 ⌝ }
+fn bump(counts: &mut [u32; rules::PORT_COUNT], c: Cell)
+    requires { ⌜ length (now counts) ≡ mostPorts ⌝ }
+    requires { ⌜ getD (now counts) (c .output .0 % mostPorts) 0 < mostRecords ⌝ }
     ensures { λ _. ⌜ now (counts .exit) ≡ bumped (now (counts .entry)) c ⌝ }
 {
-    let at = (c.output.0 % 16) as usize;
+    let at = (c.output.0 % rules::MOST_PORTS) as usize;
     counts[at] = counts[at] + one_if_counted(c);
 }
 
+// The reading, in one pass over the ready records.
 pub fn read(table: &[u32]) -> Reading
-    requires { ⌜ records (now table) ≤ 1024 ⌝ }
+    requires { ⌜ records (now table) ≤ mostRecords ⌝ }
     ensures { λ r. ⌜ r .counts ≡ readings (cellsOf (now (table .entry))) ⌝ }
 {
     let n = record_count(table);
-    let mut counts = [0u32; 16];
-    let mut list = [0u8; 256];
+    let mut counts = [0u32; rules::PORT_COUNT];
+    let mut list = [0u8; sift::STRETCH];
     let mut k = 0;
     'stretches: while k < n {
         let end = sift::stretch_end(k, n);

@@ -28,16 +28,16 @@ stretch-end-requires : tie.Need-stretch-end-requires Inv-loop μ-loop
 stretch-end-requires c κs = omega arith
 
 is-stretch-fit-requires : tie.Need-is-stretch-fit-requires Inv-loop μ-loop
-is-stretch-fit-requires c κs = let e = c .before .stretch-end .ensures in ((omega (arith, e .0), omega (arith, e .1), e .2), c .before .before .before .loop .inv .1)
+is-stretch-fit-requires c κs = ((omega arith, omega arith, omega arith), c .before .before .before .loop .inv .1)
 
 returns : tie.Need-returns Inv-loop μ-loop
 returns c = sym (c .before .is-stretch-fit .ensures .1 (not-true _ (c .if1 .taken)))
 
 loop-less : tie.Need-loop-less Inv-loop μ-loop
-loop-less c = let e = c .before .before .before .stretch-end .ensures in omega (arith, e .0, e .1)
+loop-less c = omega (arith, c .before .before .before .stretch-end .ensures)
 
 loop-again : tie.Need-loop-again Inv-loop μ-loop
-loop-again c = (c .before .before .before .stretch-end .ensures .1, c .before .is-stretch-fit .ensures .0 (not-false _ (c .if1 .left)))
+loop-again c = (omega (arith, c .before .before .before .stretch-end .ensures), c .before .is-stretch-fit .ensures .0 (not-false _ (c .if1 .left)))
 
 returns-2 : tie.Need-returns-2 Inv-loop μ-loop
 unfolding fit

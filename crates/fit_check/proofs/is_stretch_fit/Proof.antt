@@ -11,7 +11,7 @@ use Rattle.laws.specs.Count.{every-more}
 use Rattle.laws.specs.Sifted.{past}
 use Rattle.rules.specs.Cells.{cellsOf, isSound}
 use Rattle.words.specs.Words.{in-words}
-use Rattle.sift.specs.Kinds.{past-more, sifted-inside}
+use Rattle.sift.specs.Stretch.{past-more, sifted-inside}
 use Rattle.fit_check.specs.Marks.{Passed, passed-to, passed-end, unfit}
 use Rattle.fit_check.proofs.is_stretch_fit.Statement.{statement}
 use Rattle.fit_check.proofs.is_stretch_fit.Tie as tie

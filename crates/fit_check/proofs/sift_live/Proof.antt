@@ -4,6 +4,7 @@ use mathlib.Core.Path.{_≡_}
 use native.Mathlib.Omega.{arith}
 use borrow.Author.Needs.{needs}
 use Rattle.laws.specs.Sifted.{sifted-as}
+use Rattle.sift.specs.Stretch.{listed-sifted}
 use Rattle.fit_check.specs.Blocks.{free-lacks}
 use Rattle.fit_check.proofs.sift_live.Statement.{statement}
 use Rattle.fit_check.proofs.sift_live.Tie as tie
@@ -33,7 +34,7 @@ returns : tie.Need-returns
 returns c =
     let a = c .before .before .before .before .before .before .before .before .args in
     let e : a .k + (a .end - a .k) ≡ a .end = omega (arith, c .before .before .before .before .before .before .before .before .pre .0 .0) in
-    (c .sift-within .ensures .0, (rw e at (c .before .before .before .strays-within .ensures), c .sift-within .ensures .1))
+    (listed-sifted (c .sift-within .ensures), (rw e at (c .before .before .before .strays-within .ensures), c .sift-within .ensures .long))
 
 pub sift-live-spec : {M : Type 1} → statement M
 sift-live-spec =

@@ -18,7 +18,7 @@ sift-within-requires : tie.Need-sift-within-requires
 sift-within-requires c κs =
     let p = c .before .before .before .before .before .pre in
     let d = c .before .before .sift-blocks .ensures in
-    ((omega (arith, p .0 .0, p .0 .2), omega (arith, p .0 .0, p .0 .1)), ((omega (arith, d .0 .few, d .1, p .0 .2), p .1), d .0))
+    ((omega (arith, p .0), omega (arith, p .0)), ((omega (arith, d .0 .few, d .1, p .0), p .1), d .0))
 
 returns : tie.Need-returns
 returns c = search needs

@@ -19,7 +19,7 @@ one-if-counted-requires : tie.Need-one-if-counted-requires
 one-if-counted-requires c κs = search needs
 
 add-counts : tie.Need-add-counts
-add-counts c = record { fits = omega (arith, c .one-if-counted .ensures, bit-le (isCounted (c .before .before .before .args .c)), c .before .before .before .pre .1) }
+add-counts c = let s = c .before .before .before in omega (arith, bit-le (isCounted (s .args .c)), s .pre)
 
 mul-counts-2 : tie.Need-mul-counts-2
 mul-counts-2 c = search needs

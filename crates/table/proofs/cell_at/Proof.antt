@@ -1,4 +1,4 @@
--- Record k lies within the words, and its five words are the cell's fields.
+-- Record k lies within the words, and its words are the cell's fields.
 use mathlib.Core.Path.{sym}
 use native.Mathlib.Omega.{arith}
 use Rattle.rules.specs.Cells.{records}
@@ -67,7 +67,7 @@ unfolding records
 shared-slice-read-t25 c = omega arith
 
 returns : tie.Need-returns
-returns c = sym (nth-cellsOf _ _ (c .before .before .before .before .before .pre))
+returns c = sym (nth-cellsOf _ _ (omega arith))
 
 pub cell-at-spec : {M : Type 1} → statement M
 cell-at-spec =

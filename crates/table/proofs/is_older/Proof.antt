@@ -16,7 +16,7 @@ returns-2 c = sym (lower-above _ _ _ (c .if2 .taken))
 
 returns-3 : tie.Need-returns-3
 unfolding older
-returns-3 c = sym (lower-equal _ _ _ (omega (arith, c .before .before .if2 .left, c .before .before .before .before .before .if1 .left)))
+returns-3 c = sym (lower-equal _ _ _ (omega arith))
 
 pub is-older-spec : {M : Type 1} → statement M
 is-older-spec = tie.close (tie.spec returns returns-2 returns-3)

@@ -12,6 +12,10 @@ Inv-loop table from n k₀ k = NoneBelow table k
 abbrev μ-loop : tie.MeasureT-loop
 μ-loop table from n k₀ k = n - k
 
+-- the turn in which a record is read
+abbrev turn : tie.After-cell-at Inv-loop μ-loop → tie.At-loop Inv-loop μ-loop
+turn c = c .before .before
+
 record-count-requires : tie.Need-record-count-requires Inv-loop μ-loop
 record-count-requires c κs = tt
 
@@ -22,7 +26,7 @@ cell-at-requires : tie.Need-cell-at-requires Inv-loop μ-loop
 cell-at-requires c κs = omega arith
 
 returns : tie.Need-returns Inv-loop μ-loop
-returns c = sym (first-free (c .before .before .before .before .loop .inv) (omega arith) (c .before .before .cell-at .ensures) (c .if1 .taken))
+returns c = let r = c .before .before in sym (first-free (turn r .loop .inv) (omega arith) (r .cell-at .ensures) (c .if1 .taken))
 
 add-k : tie.Need-add-k Inv-loop μ-loop
 add-k c = omega arith
@@ -31,7 +35,7 @@ loop-less : tie.Need-loop-less Inv-loop μ-loop
 loop-less c = omega arith
 
 loop-again : tie.Need-loop-again Inv-loop μ-loop
-loop-again c = none-below-more (c .before .before .before .before .loop .inv) (omega arith) (c .before .before .cell-at .ensures) (c .if1 .left)
+loop-again c = let r = c .before .before in none-below-more (turn r .loop .inv) (omega arith) (r .cell-at .ensures) (c .if1 .left)
 
 returns-2 : tie.Need-returns-2 Inv-loop μ-loop
 returns-2 c = sym (none-free (c .before .loop .inv) (omega arith))

@@ -1,13 +1,30 @@
 -- Whether record k is ready, whether one was found before, and whether k stands before it: the four ways of one turn.
-use mathlib.Core.Path.{sym, ap, ap₂, _∙_}
+use mathlib.Core.Path.{_≡_, sym, ap, ap₂, _∙_}
 use native.Mathlib.Omega.{arith}
 use borrow.Author.Tests.{not-true, not-false}
-use Rattle.laws.specs.Least.{Below, sooner-skip, sooner-first, sooner-wins, sooner-stays}
-use Rattle.laws.specs.declared.Found.the-variants.{At}
-use Rattle.rules.specs.Cells.{isReadyFor, older}
+use denote.Ref.{now}
+use Rattle.laws.specs.Least.{below-at, sooner-skip, sooner-first, sooner-wins, sooner-stays}
+use Rattle.rules.specs.Cells.{nth, cellsOf, isReadyFor, older}
 use borrow.Author.Needs.{needs}
 use Rattle.table.proofs.older_of.Statement.{statement}
 use Rattle.table.proofs.older_of.Tie as tie
+
+abbrev start : tie.After-is-ready-for → tie.Start
+start c = c .before .before .before
+
+-- whether record k is ready for the output is what the test said
+ready : (c : tie.After-is-ready-for) → isReadyFor (start c .args .o) (nth (cellsOf (now (start c .args .table))) (start c .args .k)) ≡ c .is-ready-for .result
+ready c = sym (ap (isReadyFor _) (c .before .cell-at .ensures)) ∙ sym (c .is-ready-for .ensures)
+
+-- where both cells are compared: one was found before, record k passed the test
+abbrev found : tie.After-is-older → tie.After-found
+found c = c .before .before .before
+
+abbrev passed : tie.After-is-older → tie.Else1
+passed c = found c .before .before
+
+abbrev tested : tie.After-is-older → tie.After-is-ready-for
+tested c = passed c .before
 
 cell-at-requires : tie.Need-cell-at-requires
 cell-at-requires c κs = search needs
@@ -16,7 +33,7 @@ is-ready-for-requires : tie.Need-is-ready-for-requires
 is-ready-for-requires c κs = search needs
 
 returns : tie.Need-returns
-returns c = sym (sooner-skip _ _ _ _ (sym (ap (isReadyFor _) (c .before .before .cell-at .ensures)) ∙ sym (c .before .is-ready-for .ensures) ∙ not-true _ (c .if1 .taken)))
+returns c = sym (sooner-skip _ _ _ _ (ready (c .before) ∙ not-true _ (c .if1 .taken)))
 
 enum-known-found : tie.Need-enum-known-found
 enum-known-found c = search needs
@@ -25,25 +42,28 @@ enum-told : tie.Need-enum-told
 enum-told c = search needs
 
 returns-2 : tie.Need-returns-2
-returns-2 c = sym (sooner-first _ _ _ _ (sym (ap (isReadyFor _) (c .before .before .before .before .cell-at .ensures)) ∙ sym (c .before .before .before .is-ready-for .ensures) ∙ not-false _ (c .before .before .if1 .left)) (c .enum-told .given .1))
+returns-2 c = sym (sooner-first _ _ _ _ (ready (c .before .before .before) ∙ not-false _ (c .before .before .if1 .left)) (c .enum-told .given .1))
 
 cell-at-requires-2 : tie.Need-cell-at-requires-2
-cell-at-requires-2 c κs =
-    let h : Below (c .before .before .before .before .before .before .before .args .k) (At (c .before .found .given .0 .0)) = rw (c .before .found .given .1) at (c .before .before .before .before .before .before .before .pre .1) in
-    omega (arith, c .before .before .before .before .before .before .before .pre .0)
+cell-at-requires-2 c κs = let p = start (c .before .before .before .before) .pre in omega (arith, below-at _ _ _ (c .before .found .given .1) (p .1), p .0)
 
 is-older-requires : tie.Need-is-older-requires
 is-older-requires c κs = search needs
 
+-- record k stands before the one found is what the comparison said
+stands : (c : tie.After-is-older) → older (nth (cellsOf (now (start (tested c) .args .table))) (start (tested c) .args .k))
+    (nth (cellsOf (now (start (tested c) .args .table))) (found c .found .given .0 .0)) ≡ c .is-older .result
+stands c = sym (c .is-older .ensures ∙ ap₂ older (tested c .before .cell-at .ensures) (c .before .cell-at2 .ensures))
+
 returns-3 : tie.Need-returns-3
 returns-3 c =
-    sym (sooner-wins _ _ _ _ _ (sym (ap (isReadyFor _) (c .before .before .before .before .before .before .before .before .cell-at .ensures)) ∙ sym (c .before .before .before .before .before .before .before .is-ready-for .ensures) ∙ not-false _ (c .before .before .before .before .before .before .if1 .left)) (c .before .before .before .before .found .given .1)
-    (sym (c .before .is-older .ensures ∙ ap₂ older (c .before .before .before .before .before .before .before .before .cell-at .ensures) (c .before .before .cell-at2 .ensures)) ∙ c .if2 .taken))
+    let o = c .before in
+    sym (sooner-wins _ _ _ _ _ (ready (tested o) ∙ not-false _ (passed o .if1 .left)) (found o .found .given .1) (stands o ∙ c .if2 .taken))
 
 returns-4 : tie.Need-returns-4
 returns-4 c =
-    sym (sooner-stays _ _ _ _ _ (sym (ap (isReadyFor _) (c .before .before .before .before .before .before .before .before .cell-at .ensures)) ∙ sym (c .before .before .before .before .before .before .before .is-ready-for .ensures) ∙ not-false _ (c .before .before .before .before .before .before .if1 .left)) (c .before .before .before .before .found .given .1)
-    (sym (c .before .is-older .ensures ∙ ap₂ older (c .before .before .before .before .before .before .before .before .cell-at .ensures) (c .before .before .cell-at2 .ensures)) ∙ c .if2 .left))
+    let o = c .before in
+    sym (sooner-stays _ _ _ _ _ (ready (tested o) ∙ not-false _ (passed o .if1 .left)) (found o .found .given .1) (stands o ∙ c .if2 .left))
 
 pub older-of-spec : {M : Type 1} → statement M
 older-of-spec =

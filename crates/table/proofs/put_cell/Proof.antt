@@ -1,4 +1,4 @@
--- Record k lies within the words; its five stores are the `store` of the table's words.
+-- Record k lies within the words; the stores of its fields are the `store` of the table's words.
 use native.Mathlib.Omega.{arith}
 use native.Mathlib.Numerals.{towards-suc}
 use lib.ListN.{length-set}

@@ -1,4 +1,4 @@
--- Five words a record.
+-- As many words a record as the rules say.
 use mathlib.Core.Path.{refl}
 use Rattle.rules.specs.Cells.{records}
 use Rattle.table.proofs.record_count.Statement.{statement}

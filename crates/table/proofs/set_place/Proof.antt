@@ -1,4 +1,4 @@
--- One store; the other four words of the record stay.
+-- One store; the other words of the record stay.
 use native.Mathlib.Omega.{arith}
 use Rattle.rules.specs.Cells.{records}
 use Rattle.words.specs.Words.{place-with}
