@@ -26,6 +26,7 @@ use Rattle.ideal.specs.Fit.{Fit}
 use Rattle.ideal.specs.Exhale.{Oldest, oldest-is, emitted→, found-emitted}
 use Rattle.ideal.specs.Meets.{one-each}
 
+-- an entry has as many words whether a cell is emitted or none
 pub length-emitted : (cs : List Cell) (x : Found) → length (emittedWords cs x) ≡ exhaledWidth
 length-emitted cs (At k) = refl
 length-emitted cs Nothing = refl

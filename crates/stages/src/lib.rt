@@ -1,13 +1,14 @@
-// The parts of an accepted slot as calls of their own, in the order of `switch`: what the benchmark times one by one. They are not for a caller of the
-// switch, since each asks for what the parts before it have seen to, and nothing checks that of a caller in another language.
+// The stages of an accepted slot as calls of their own, in the order of `switch`: what the benchmark times one by one. They are not for a caller of
+// the switch, since each asks for what the stages before it have seen to, and nothing checks that of a caller in another language.
 use rules::Slot;
 ghost use mathlib.Core.Path.{_≡_};
 ghost use Prim.Native.Nat.{_*_, _<_, _≤_};
 ghost use lib.ListN.{length, getD};
-ghost use Rattle.rules.specs.Answers.{live};
-ghost use Rattle.rules.specs.Cells.{slotOf, records, cellsOf, fit};
+ghost use Rattle.rules.specs.Answers.{arrivalWidth, exhaledWidth, live};
+ghost use Rattle.rules.specs.Cells.{mostPorts, mostRecords, slotOf, records, cellsOf, fit};
 ghost use Rattle.rules.specs.Phases.{inhale, readings, phases, exhale, exhaled};
 ghost use Rattle.rules.specs.Phases.{matches as matchesOf};
+ghost use Rattle.words.specs.Words.{withRecords};
 ghost use Rattle.matching.specs.Picking.{InPorts};
 
 #[no_mangle]
@@ -31,8 +32,8 @@ pub extern "C" fn treikwater_stage_inhale(
     ports: u32,
     next: u32,
 )
-    requires { ⌜ ports * 2 ≤ length (now arrivals) ⌝ }
-    ensures { λ _. ⌜ cellsOf (now (table .exit)) ≡ inhale ports (slotOf next) (now (arrivals .entry)) (cellsOf (now (table .entry))) ⌝ }
+    requires { ⌜ ports * arrivalWidth ≤ length (now arrivals) ⌝ }
+    ensures { λ _. ⌜ now (table .exit) ≡ withRecords (now (table .entry)) (inhale ports (slotOf next) (now (arrivals .entry)) (cellsOf (now (table .entry)))) ⌝ }
 {
     buffers::inhale(table, arrivals, ports, Slot(next));
 }
@@ -40,8 +41,8 @@ pub extern "C" fn treikwater_stage_inhale(
 // The reading of one output; all are read.
 #[no_mangle]
 pub extern "C" fn treikwater_stage_reading(table: &[u32], output: u32) -> u32
-    requires { ⌜ records (now table) ≤ 1024 ⌝ }
-    requires { ⌜ output < 16 ⌝ }
+    requires { ⌜ records (now table) ≤ mostRecords ⌝ }
+    requires { ⌜ output < mostPorts ⌝ }
     ensures { λ r. ⌜ r ≡ getD (readings (cellsOf (now (table .entry)))) output 0 ⌝ }
 {
     let r = table::read(table);
@@ -57,10 +58,10 @@ pub extern "C" fn treikwater_stage_phases(
     ports: u32,
     speedup: u32,
 )
-    requires { ⌜ ports ≤ 16 ⌝ }
+    requires { ⌜ ports ≤ mostPorts ⌝ }
     requires { ⌜ length (now matches) ≡ speedup * ports ⌝ }
     requires { ⌜ InPorts ports (cellsOf (now table)) ⌝ }
-    requires { ⌜ records (now table) ≤ 1024 ⌝ }
+    requires { ⌜ records (now table) ≤ mostRecords ⌝ }
     ensures { λ _. ⌜ cellsOf (now (table .exit)) ≡ phases ports (readings (cellsOf (now (table .entry)))) (cellsOf (now (table .entry))) speedup ⌝ }
     ensures { λ _. ⌜ now (matches .exit) ≡ matchesOf ports (readings (cellsOf (now (table .entry)))) (cellsOf (now (table .entry))) speedup ⌝ }
 {
@@ -70,8 +71,8 @@ pub extern "C" fn treikwater_stage_phases(
 
 #[no_mangle]
 pub extern "C" fn treikwater_stage_exhale(table: &mut [u32], list: &mut [u32], ports: u32)
-    requires { ⌜ length (now list) ≡ ports * 4 ⌝ }
-    ensures { λ _. ⌜ cellsOf (now (table .exit)) ≡ exhale ports (cellsOf (now (table .entry))) ⌝ }
+    requires { ⌜ length (now list) ≡ ports * exhaledWidth ⌝ }
+    ensures { λ _. ⌜ now (table .exit) ≡ withRecords (now (table .entry)) (exhale ports (cellsOf (now (table .entry)))) ⌝ }
     ensures { λ _. ⌜ now (list .exit) ≡ exhaled ports (cellsOf (now (table .entry))) ⌝ }
 {
     buffers::exhale(table, list, ports);

@@ -15,13 +15,13 @@ use Rattle.rules.specs.Phases.{exhaled as exhaledOf}
 use Rattle.rules.specs.Phases.{matches as matchesOf}
 use Rattle.rules.specs.Answers.{Lists}
 use Rattle.rules.specs.Calls.{Started, freshStart, Outcome, entered, transferred, slotRuns, slot}
-use Rattle.words.specs.Words.{length-cellsOf, length-wordsOf, cellsOf-wordsOf, words-known}
+use Rattle.words.specs.Words.{length-cellsOf, length-wordsOf, cellsOf-wordsOf, words-known, withRecords, with-long, with-cells}
 use Rattle.ideal.specs.Fit.{Fit}
 use Rattle.ideal.specs.Phases.{length-phases}
-use Rattle.ideal.specs.Inhale.{inhale-is}
 use Rattle.ideal.specs.Exhale.{length-exhale}
 use Rattle.ideal.specs.Calls.{Accepted, entered-fit}
 use Rattle.matching.specs.Picking.{InPorts}
+use Rattle.buffers.specs.Inhale.{length-inhale}
 
 -- the table and the two lists that an accepted slot leaves
 pub record Ran (w : Switch) (table arrivals table′ matches exhaled : List ℕ) : Type 0 where
@@ -36,14 +36,21 @@ module _ {w : Switch} {table : List ℕ} {l : Lists} (a : Accepted w table l) wh
   abbrev arrivals : List ℕ
   arrivals = l .arrivals
 
-  -- the table after the inhale is within bounds and has its ports in order
-  pub entered-in-ports : (table1 : List ℕ) → cellsOf table1 ≡ inhale (w .ports) (w .next) arrivals (cellsOf table) → InPorts (w .ports) (cellsOf table1)
-  unfolding entered
-  entered-in-ports table1 e = rw e (in-ports-fit (entered-fit a))
+  -- the records at the end of the inhale, as many as before
+  abbrev full : List Cell
+  full = inhale (w .ports) (w .next) arrivals (cellsOf table)
 
-  pub entered-small : (table1 : List ℕ) → length table1 ≡ length table → records table1 ≤ mostRecords
+  full-many : length full ≡ length (cellsOf table)
+  full-many = length-inhale (w .next) arrivals (w .ports) (cellsOf table)
+
+  -- the table after the inhale is within bounds and has its ports in order
+  pub entered-in-ports : (table1 : List ℕ) → table1 ≡ withRecords table full → InPorts (w .ports) (cellsOf table1)
+  unfolding entered
+  entered-in-ports table1 e = rw (with-cells table full e full-many) (in-ports-fit (entered-fit a))
+
+  pub entered-small : (table1 : List ℕ) → table1 ≡ withRecords table full → records table1 ≤ mostRecords
   unfolding records
-  entered-small table1 e = omega (arith, a .sizes .size .1, ap (λ (n : ℕ). n / width) e)
+  entered-small table1 e = omega (arith, a .sizes .size .1, ap (λ (n : ℕ). n / width) (with-long table full e full-many))
 
   -- a table of as many words, with the records that the rules give, has the words that the rules give
   table-known : (last : List ℕ) (cs : List Cell) → length last ≡ length table → length cs ≡ length (cellsOf table) → cellsOf last ≡ cs → last ≡ wordsOf cs
@@ -54,21 +61,22 @@ module _ {w : Switch} {table : List ℕ} {l : Lists} (a : Accepted w table l) wh
       (l ∙ omega (arith, wh, length-wordsOf cs, length-cellsOf table))
       (e ∙ sym (cellsOf-wordsOf cs))
 
-  pub runs : (t1 t2 t3 m e r : List ℕ) → length t1 ≡ length table → cellsOf t1 ≡ inhale (w .ports) (w .next) arrivals (cellsOf table) → r ≡ readings (cellsOf t1)
+  pub runs : (t1 t2 t3 m e r : List ℕ) → t1 ≡ withRecords table full → r ≡ readings (cellsOf t1)
       → length t2 ≡ length t1 → cellsOf t2 ≡ phases (w .ports) r (cellsOf t1) (w .speedup) → m ≡ matchesOf (w .ports) r (cellsOf t1) (w .speedup)
-      → length t3 ≡ length t2 → cellsOf t3 ≡ exhale (w .ports) (cellsOf t2) → e ≡ exhaledOf (w .ports) (cellsOf t2) → Ran w table arrivals t3 m e
+      → t3 ≡ withRecords t2 (exhale (w .ports) (cellsOf t2)) → e ≡ exhaledOf (w .ports) (cellsOf t2) → Ran w table arrivals t3 m e
   unfolding slotRuns entered transferred
-  runs t1 t2 t3 m e r l1 c1 hr l2 c2 hm l3 c3 he =
+  runs t1 t2 t3 m e r h1 hr l2 c2 hm h3 he =
       record {
-        cells = table-known t3 (exhale (w .ports) (phases (w .ports) (readings full) full (w .speedup))) (l3 ∙ l2 ∙ l1)
-            (length-exhale (w .ports) _ ∙ length-phases (w .ports) (readings full) full (w .speedup) ∙ inhale-is (w .ports) (w .next) arrivals (cellsOf table) (a .room) .long)
-            (c3 ∙ ap (exhale (w .ports)) last);
+        cells = table-known t3 (exhale (w .ports) (phases (w .ports) (readings full) full (w .speedup)))
+            (with-long t2 _ h3 (length-exhale (w .ports) (cellsOf t2)) ∙ l2 ∙ with-long table full h1 full-many)
+            (length-exhale (w .ports) _ ∙ length-phases (w .ports) (readings full) full (w .speedup) ∙ full-many)
+            (with-cells t2 _ h3 (length-exhale (w .ports) (cellsOf t2)) ∙ ap (exhale (w .ports)) last);
         matched = hm ∙ ap₂ (λ (q : List ℕ) (cs : List Cell). matchesOf (w .ports) q cs (w .speedup)) (hr ∙ ap readings c1) c1;
         emitted = he ∙ ap (exhaledOf (w .ports)) last;
       }
     where
-      full : List Cell
-      full = inhale (w .ports) (w .next) arrivals (cellsOf table)
+      c1 : cellsOf t1 ≡ full
+      c1 = with-cells table full h1 full-many
 
       last : cellsOf t2 ≡ phases (w .ports) (readings full) full (w .speedup)
       last = c2 ∙ ap₂ (λ (q : List ℕ) (cs : List Cell). phases (w .ports) q cs (w .speedup)) (hr ∙ ap readings c1) c1

@@ -79,22 +79,25 @@ pub fn set_place(table: &mut [u32], k: usize, place: u32)
     table[k * rules::RECORD_WORDS] = place;
 }
 
+// A free record, all zeros.
+pub fn free_cell() -> Cell
+    ensures { λ r. ⌜ r ≡ free ⌝ }
+{
+    Cell {
+        place: 0,
+        input: Input(0),
+        output: Output(0),
+        entered: Slot(0),
+        tag: 0,
+    }
+}
+
 // Record k becomes free, all zeros.
 pub fn free_record(table: &mut [u32], k: usize)
     requires { ⌜ k < records (now table) ⌝ }
     ensures { λ _. ⌜ now (table .exit) ≡ stored (now (table .entry)) k free ⌝ }
 {
-    put_cell(
-        table,
-        k,
-        Cell {
-            place: 0,
-            input: Input(0),
-            output: Output(0),
-            entered: Slot(0),
-            tag: 0,
-        },
-    );
+    put_cell(table, k, free_cell());
 }
 
 // Whether a stands before b by slot and then input.

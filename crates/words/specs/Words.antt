@@ -167,6 +167,17 @@ module _ (ws : List ℕ) (cs : List Cell) (e : length cs ≡ records ws) where
       ap (λ (l : List ℕ). wordsOf ds ++ l)
       (drop-at (wordsOf cs) (drop (length cs * width) ws) (length ds * width) (omega (arith, length-wordsOf cs, q)) ∙ ap (λ (n : ℕ). drop (n * width) ws) (sym q))
 
+-- words vs that are ws with the records cs, as many as ws has: how long they are, their records, and what becomes of them with others
+module _ (ws : List ℕ) {vs : List ℕ} (cs : List Cell) (e : vs ≡ withRecords ws cs) (l : length cs ≡ length (cellsOf ws)) where
+  pub with-long : length vs ≡ length ws
+  with-long = ap length e ∙ length-with ws cs (l ∙ length-cellsOf ws)
+
+  pub with-cells : cellsOf vs ≡ cs
+  with-cells = ap cellsOf e ∙ cellsOf-with ws cs (l ∙ length-cellsOf ws)
+
+  pub with-then : {us : List ℕ} (ds : List Cell) → us ≡ withRecords vs ds → length ds ≡ length cs → us ≡ withRecords ws ds
+  with-then ds q m = q ∙ ap (λ (x : List ℕ). withRecords x ds) e ∙ with-again ws cs (l ∙ length-cellsOf ws) ds m
+
 -- words as many, the same behind the last whole record, are the words with their own records
 pub with-known : (ws vs : List ℕ) → length vs ≡ length ws → ((i : ℕ) → records ws * width ≤ i → getD vs i 0 ≡ getD ws i 0) → vs ≡ withRecords ws (cellsOf vs)
 unfolding withRecords records

@@ -1,9 +1,34 @@
--- Where the output finds no cell, four zeros; otherwise the cell's words, and its record is free.
-use mathlib.Core.Path.{sym, _∙_}
-use Rattle.buffers.specs.Exhale.{emits-nothing, found-inside, emits}
+-- Where the output finds no cell, an entry of zeros; otherwise the cell's entry, and its record is free.
+use mathlib.Core.Path.{_≡_, sym, _∙_}
+use denote.Ref.{now}
+use Rattle.laws.specs.declared.Found.the-variants.{At}
+use Rattle.rules.specs.Cells.{cellsOf}
+use Rattle.rules.specs.Phases.{oldestReady}
+use Rattle.buffers.specs.Exhale.{found-inside, emits-nothing, emits-record}
 use borrow.Author.Needs.{needs}
 use Rattle.buffers.proofs.emit.Statement.{statement}
 use Rattle.buffers.proofs.emit.Tie as tie
+
+-- the output has looked for its oldest ready cell
+abbrev start : tie.After-oldest-ready → tie.Start
+start c = c .before .before .before .before .before
+
+-- record k is what it finds
+abbrev looked : tie.After-k → tie.After-oldest-ready
+looked c = c .before .before
+
+finds : (c : tie.After-k) → oldestReady (cellsOf (now (start (looked c) .args .table))) (start (looked c) .args .o) ≡ At (c .k .given .0 .0)
+finds c = sym (looked c .oldest-ready .ensures) ∙ c .k .given .1
+
+-- whose entry is written
+abbrev written : tie.After-put-entry2 → tie.After-cell-at
+written c = c .before
+
+abbrev found : tie.After-cell-at → tie.After-k
+found c = c .before .before .before .before
+
+cast-at : tie.Need-cast-at
+cast-at c = search needs
 
 mul-at : tie.Need-mul-at
 mul-at c = search needs
@@ -17,8 +42,11 @@ enum-known-k c = search needs
 enum-told : tie.Need-enum-told
 enum-told c = search needs
 
-put-four-requires : tie.Need-put-four-requires
-put-four-requires c κs = search needs
+free-cell-requires : tie.Need-free-cell-requires
+free-cell-requires c κs = search needs
+
+put-entry-requires : tie.Need-put-entry-requires
+put-entry-requires c κs = search needs
 
 same-length : tie.Need-same-length
 same-length c = search needs
@@ -27,16 +55,19 @@ same-length-2 : tie.Need-same-length-2
 same-length-2 c = search needs
 
 returns : tie.Need-returns
-returns c = emits-nothing (sym (c .before .before .before .before .before .before .oldest-ready .ensures) ∙ c .before .before .before .before .enum-told .given .1) (c .before .before .put-four .ensures)
+returns c =
+    let w = c .before .before in
+    let t = w .before .before .before in
+    emits-nothing (sym (t .before .before .oldest-ready .ensures) ∙ t .enum-told .given .1) (rw (w .before .free-cell .ensures) at (w .put-entry .ensures))
 
 cell-at-requires : tie.Need-cell-at-requires
-cell-at-requires c κs = found-inside _ _ _ (sym (c .before .before .before .before .oldest-ready .ensures) ∙ c .before .before .k .given .1)
+cell-at-requires c κs = found-inside _ _ _ (finds (c .before .before .before))
 
-put-four-requires-2 : tie.Need-put-four-requires-2
-put-four-requires-2 c κs = search needs
+put-entry-requires-2 : tie.Need-put-entry-requires-2
+put-entry-requires-2 c κs = search needs
 
 free-record-requires : tie.Need-free-record-requires
-free-record-requires c κs = found-inside _ _ _ (sym (c .before .before .before .before .before .before .before .before .before .before .oldest-ready .ensures) ∙ c .before .before .before .before .before .before .before .before .k .given .1)
+free-record-requires c κs = found-inside _ _ _ (finds (found (written (c .before .before .before))))
 
 same-length-3 : tie.Need-same-length-3
 same-length-3 c = search needs
@@ -45,22 +76,27 @@ same-length-4 : tie.Need-same-length-4
 same-length-4 c = search needs
 
 returns-2 : tie.Need-returns-2
-returns-2 c = emits (sym (c .before .before .before .before .before .before .before .before .before .before .before .before .before .oldest-ready .ensures) ∙ c .before .before .before .before .before .before .before .before .before .before .before .k .given .1) (c .before .before .before .before .before .before .before .before .cell-at .ensures) (c .before .before .before .before .before .before .put-four2 .ensures) (c .before .before .free-record .ensures)
+returns-2 c =
+    let f = c .before .before in
+    let w = f .before .before .before .before in
+    emits-record (finds (found (written w))) (rw (written w .cell-at .ensures) at (w .put-entry2 .ensures)) (f .free-record .ensures)
 
 pub emit-spec : {M : Type 1} → statement M
 emit-spec =
     tie.close
     (tie.spec
+    cast-at
     mul-at
     oldest-ready-requires
     enum-known-k
     enum-told
-    put-four-requires
+    free-cell-requires
+    put-entry-requires
     same-length
     same-length-2
     returns
     cell-at-requires
-    put-four-requires-2
+    put-entry-requires-2
     free-record-requires
     same-length-3
     same-length-4

@@ -1,14 +1,38 @@
 -- No cell arrives, there is no room, or the cell takes the record found.
 use Prim.Native.Nat.{_<_}
-use mathlib.Core.Path.{sym, _∙_}
+use mathlib.Core.Path.{_≡_, sym, _∙_}
 use native.Mathlib.Omega.{arith}
 use denote.Ref.{now}
-use Rattle.rules.specs.Cells.{records}
+use Rattle.laws.specs.declared.Found.the-variants.{At}
+use Rattle.rules.specs.Cells.{records, cellsOf}
 use Rattle.rules.specs.Answers.{firstWord, tagWord}
-use Rattle.buffers.specs.Inhale.{none-arrives, no-room, room-inside, arrived}
+use Rattle.rules.specs.Phases.{lowestFree}
+use Rattle.words.specs.Words.{in-words}
+use Rattle.buffers.specs.Inhale.{none-arrives, no-room, room-inside, takes-room}
 use borrow.Author.Needs.{needs}
 use Rattle.buffers.proofs.enter.Statement.{statement}
 use Rattle.buffers.proofs.enter.Tie as tie
+
+-- a cell arrives, and room is looked for
+abbrev arrives : tie.After-next-free → tie.Else1
+arrives c = c .before .before
+
+abbrev start : tie.Else1 → tie.Start
+start c = c .before .before .before .before .before
+
+-- record k is the room found
+abbrev looked : tie.After-k → tie.After-next-free
+looked c = c .before .before
+
+room : (c : tie.After-k) → lowestFree (cellsOf (now (start (arrives (looked c)) .args .table))) ≡ At (c .k .given .0 .0)
+room c = sym (looked c .next-free .ensures) ∙ c .k .given .1
+
+-- and the cell is put there
+abbrev put : tie.After-put-cell → tie.After-k
+put c = c .before .before .before .before
+
+cast-at : tie.Need-cast-at
+cast-at c = search needs
 
 mul-at : tie.Need-mul-at
 mul-at c = search needs
@@ -21,7 +45,7 @@ shared-slice-read-word c = search needs
 
 returns : tie.Need-returns
 unfolding firstWord
-returns c = none-arrives _ _ _ _ (c .before .before .before .before .pre .0) (c .if1 .taken)
+returns c = none-arrives _ _ _ _ (c .before .before .before .before .before .pre .0) (c .if1 .taken)
 
 next-free-requires : tie.Need-next-free-requires
 next-free-requires c κs = search needs
@@ -37,7 +61,9 @@ same-length c = search needs
 
 returns-2 : tie.Need-returns-2
 unfolding firstWord
-returns-2 c = no-room _ _ _ _ (c .before .before .before .before .before .before .before .before .pre .0) (c .before .before .before .before .if1 .left) (sym (c .before .before .next-free .ensures) ∙ c .enum-told .given .1)
+returns-2 c =
+    let l = c .before .before in
+    no-room _ _ _ _ (start (arrives l) .pre .0) (arrives l .if1 .left) (sym (l .next-free .ensures) ∙ c .enum-told .given .1)
 
 sub-t12 : tie.Need-sub-t12
 sub-t12 c = search needs
@@ -45,33 +71,31 @@ sub-t12 c = search needs
 add-t10 : tie.Need-add-t10
 add-t10 c = search needs
 
-mul-t19 : tie.Need-mul-t19
-mul-t19 c = search needs
+mul-t18 : tie.Need-mul-t18
+mul-t18 c = search needs
 
-shared-slice-read-t21 : tie.Need-shared-slice-read-t21
-shared-slice-read-t21 c = search needs
+shared-slice-read-t20 : tie.Need-shared-slice-read-t20
+shared-slice-read-t20 c = search needs
 
 put-cell-requires : tie.Need-put-cell-requires
-put-cell-requires c κs = room-inside _ _ (sym (c .before .before .before .before .before .next-free .ensures) ∙ c .before .before .before .k .given .1)
+put-cell-requires c κs = room-inside _ _ (room (c .before .before .before))
 
 add-result : tie.Need-add-result
 unfolding records
-add-result c =
-    let w = now (c .before .before .before .before .before .before .before .before .before .before .before .before .before .before .args .table) in
-    let l : c .before .before .before .before .before .before .k .given .0 .0 < records w = room-inside w _ (sym (c .before .before .before .before .before .before .before .before .next-free .ensures) ∙ c .before .before .before .before .before .before .k .given .1) in
-    omega arith
+add-result c = omega (arith, room-inside _ _ (room (put (c .before .before))))
 
 same-length-2 : tie.Need-same-length-2
 same-length-2 c = search needs
 
 returns-3 : tie.Need-returns-3
 unfolding firstWord tagWord
-returns-3 c = arrived _ _ _ _ _ (sym (c .before .before .before .before .before .before .before .before .next-free .ensures) ∙ c .before .before .before .before .before .before .k .given .1) _ (c .before .before .before .before .before .before .before .before .before .before .if1 .left) (c .before .before .put-cell .ensures)
+returns-3 c = let p = c .before .before in takes-room _ _ _ _ _ (room (put p)) _ (arrives (looked (put p)) .if1 .left) (p .put-cell .ensures)
 
 pub enter-spec : {M : Type 1} → statement M
 enter-spec =
     tie.close
     (tie.spec
+    cast-at
     mul-at
     mul-word
     shared-slice-read-word
@@ -83,8 +107,8 @@ enter-spec =
     returns-2
     sub-t12
     add-t10
-    mul-t19
-    shared-slice-read-t21
+    mul-t18
+    shared-slice-read-t20
     put-cell-requires
     add-result
     same-length-2

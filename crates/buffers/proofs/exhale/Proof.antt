@@ -4,19 +4,19 @@ use mathlib.Core.Path.{_≡_, refl, sym, _∙_}
 use native.Mathlib.Omega.{arith}
 use lib.ListN.{length}
 use lib.Seq.{take-all}
-use Rattle.rules.specs.Cells.{cellsOf}
-use Rattle.buffers.specs.Exhale.{Exhaling, exhaling-none, exhaling-more}
+use Rattle.rules.specs.Answers.{exhaledWidth}
+use Rattle.buffers.specs.Exhale.{Exhaling, exhaling-none, exhaling-long, exhaling-more}
 use Rattle.buffers.proofs.exhale.Statement.{statement}
 use Rattle.buffers.proofs.exhale.Tie as tie
 
 abbrev Inv-loop : tie.InvT-loop
-Inv-loop table₀ list₀ ports o₀ table list o = (o ≤ ports) × (length table ≡ length table₀) × (length list ≡ length list₀) × Exhaling (cellsOf table₀) o table list
+Inv-loop table₀ list₀ ports o₀ table list o = (o ≤ ports) × (length list ≡ length list₀) × Exhaling table₀ o table list
 
 abbrev μ-loop : tie.MeasureT-loop
 μ-loop table₀ list₀ ports o₀ table list o = ports - o
 
 loop-holds : tie.Need-loop-holds Inv-loop μ-loop
-loop-holds c = (omega arith, refl, refl, exhaling-none _ _)
+loop-holds c = (omega arith, refl, exhaling-none _ _)
 
 emit-requires : tie.Need-emit-requires Inv-loop μ-loop
 emit-requires c κs = omega arith
@@ -28,19 +28,20 @@ loop-less : tie.Need-loop-less Inv-loop μ-loop
 loop-less c = omega arith
 
 loop-again : tie.Need-loop-again Inv-loop μ-loop
-loop-again c = (omega arith, omega arith, omega arith, exhaling-more (omega arith) (c .before .before .before .before .before .before .before .before .loop .inv .3) (c .before .before .before .before .emit .ensures))
+loop-again c = let e = c .before .before .before .before in (omega arith, omega arith, exhaling-more (omega arith) (e .before .before .before .before .loop .inv .2) (e .emit .ensures))
 
 same-length : tie.Need-same-length Inv-loop μ-loop
-same-length c = omega arith
+same-length c = exhaling-long (c .before .loop .inv .2)
 
 same-length-2 : tie.Need-same-length-2 Inv-loop μ-loop
 same-length-2 c = omega arith
 
 returns : tie.Need-returns Inv-loop μ-loop
 returns c =
-    let e : c .before .loop .o ≡ c .before .before .before .before .args .ports = omega arith in
-    let x = c .before .loop .inv .3 in
-    (c .before .loop .inv .1, (rw e at (x .cells), sym (take-all (c .before .before .before .before .args .ports * 4) (c .before .loop .list) (omega arith)) ∙ rw e at (x .words)))
+    let n = c .before .before .before .before .args .ports in
+    let e : c .before .loop .o ≡ n = omega arith in
+    let x = c .before .loop .inv .2 in
+    (rw e at (x .table), sym (take-all (n * exhaledWidth) (c .before .loop .list) (omega arith)) ∙ rw e at (x .list))
 
 pub exhale-spec : {M : Type 1} → statement M
 exhale-spec =

@@ -8,13 +8,13 @@ inhale-requires : tie.Need-inhale-requires
 inhale-requires c κs = search needs
 
 read-requires : tie.Need-read-requires
-read-requires c κs = entered-small (c .before .before .before .before .before .before .before .before .before .pre) _ (c .before .before .before .inhale .ensures .0)
+read-requires c κs = entered-small (c .before .before .before .before .before .before .before .before .before .pre) _ (c .before .before .before .inhale .ensures)
 
 transfers-requires : tie.Need-transfers-requires
 transfers-requires c κs =
     let a = c .before .before .before .before .before .before .before .before .before .before .before .before .pre in
     let h = c .before .before .before .before .before .before .inhale .ensures in
-    (a .sizes .ports .1, (a .lists .matches, (entered-in-ports a _ (h .1), entered-small a _ (h .0))))
+    (a .sizes .ports .1, (a .lists .matches, (entered-in-ports a _ h, entered-small a _ h)))
 
 exhale-requires : tie.Need-exhale-requires
 exhale-requires c κs = search needs
@@ -33,7 +33,7 @@ returns c =
     let h = c .before .before .before .before .before .before .before .before .before .before .before .before .before .before .before .before .before .before .inhale .ensures in
     let t = c .before .before .before .before .before .before .before .before .before .before .before .transfers .ensures in
     let e = c .before .before .before .before .exhale .ensures in
-    runs (c .before .before .before .before .before .before .before .before .before .before .before .before .before .before .before .before .before .before .before .before .before .before .before .before .pre) _ _ _ _ _ _ (h .0) (h .1) (c .before .before .before .before .before .before .before .before .before .before .before .before .before .before .read .ensures) (t .0) (t .1 .0) (t .1 .1) (e .0) (e .1 .0) (e .1 .1)
+    runs (c .before .before .before .before .before .before .before .before .before .before .before .before .before .before .before .before .before .before .before .before .before .before .before .before .pre) _ _ _ _ _ _ h (c .before .before .before .before .before .before .before .before .before .before .before .before .before .before .read .ensures) (t .0) (t .1 .0) (t .1 .1) (e .0) (e .1)
 
 pub run-spec : {M : Type 1} → statement M
 run-spec =

@@ -1,10 +1,10 @@
--- Four stores one after the other.
+-- The stores one after the other.
 use native.Mathlib.Omega.{arith}
-use native.Mathlib.Numerals.{add-one, add-two, add-three}
+use native.Mathlib.Numerals.{towards-suc}
 use lib.ListN.{length-set}
 use borrow.Author.Needs.{needs}
-use Rattle.buffers.proofs.put_four.Statement.{statement}
-use Rattle.buffers.proofs.put_four.Tie as tie
+use Rattle.buffers.proofs.put_entry.Statement.{statement}
+use Rattle.buffers.proofs.put_entry.Tie as tie
 
 mul-list : tie.Need-mul-list
 mul-list c = search needs
@@ -43,10 +43,10 @@ same-length : tie.Need-same-length
 same-length c = search needs
 
 returns : tie.Need-returns
-returns c = simp (add-one, add-two, add-three)
+returns c = simp towards-suc
 
-pub put-four-spec : {M : Type 1} → statement M
-put-four-spec =
+pub put-entry-spec : {M : Type 1} → statement M
+put-entry-spec =
     tie.close
     (tie.spec
     mul-list
