@@ -25,7 +25,7 @@ use Rattle.ideal.specs.Exhale.{emitted→, length-exhale, exhale-kept, exhale-l
 use Rattle.ideal.specs.Exhaled.{shown, shown→}
 use Rattle.demands.specs.Ages.{age}
 use Rattle.demands.specs.Led.{Led}
-use Rattle.demands.specs.Elders.{Holds, elders-hold, stays-same, stays-on, leaves-now, stays-behind, one-fewer}
+use Rattle.demands.specs.Elders.{Holds, elders-hold, no-elders, stays-same, stays-on, leaves-now, stays-behind, one-fewer}
 
 -- no live record has c's slot and input
 abbrev pub Gone : Cell → List Cell → Type 0
@@ -173,7 +173,9 @@ due-exhale w {t} {cs} ports f led {c} {s} (inr g) = gone-exhale w f c s (g .0) (
 due-exhale w {t} {cs} ports f led {c} {s} (inl q) = go (elders cs c) refl
   where
     go : (e : ℕ) → elders cs c ≡ e → Departs w cs c s
-    go zero z = first-exhale w f c (q .below) (q .stays) s (omega (arith, z, q .turn)) (leaves-now ports f led (q .below) (q .stays) z)
+    go zero z =
+        first-exhale w f c (q .below) (q .stays) s (omega (arith, z, q .turn))
+        (leaves-now ports f led (q .below) (q .stays) (λ k l v x. no-elders cs c z k l x))
     go (suc e) z =
         later-exhale w f c (q .below) (q .stays) s e (omega (arith, z, q .turn))
         (stays-behind ports f led (q .below) (q .stays) e z) (one-fewer ports f led (q .below) (q .stays) e z)

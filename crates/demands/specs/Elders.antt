@@ -41,6 +41,11 @@ module _ (c d : Cell) where
   unfolding older
   older-entered h = ⊎-elim (λ x. omega arith) (λ x. omega (arith, x .0)) (lower→ _ _ _ h)
 
+-- where none is counted there is none
+pub no-elders : (cs : List Cell) (c : Cell) → elders cs c ≡ 0 → (k : ℕ) → k < length cs → So (isElder c (nth cs k)) → ⊥
+unfolding elders
+no-elders cs c z k l x = omega (arith, z, count-hit (λ j. isElder c (nth cs j)) (length cs) k l x)
+
 pub stays-same : {c d : Cell} → Stays c d → Same d c
 stays-same s = record { input = s .input; output = s .output; entered = s .entered; tag = s .tag }
 
@@ -108,10 +113,9 @@ module _ {n : ℕ} {t : Slot} {cs : List Cell} (ports : n ≤ mostPorts) (f : Fi
       inl (subst (λ j. So (isEmitted n cs j)) (f .apart (k .0) q (k .1) l w (s .lives) (e .0) (e .1)) (k .2)))
       (passes (older (nth cs (k .0)) (nth cs q)))
 
-  -- with none before it, the cell itself is emitted
-  pub leaves-now : elders cs c ≡ 0 → So (isEmitted n cs q)
-  unfolding elders
-  leaves-now z = ⊎-elim (λ x. x) (λ k. absurd (omega (arith, z, count-hit (λ j. isElder c (nth cs j)) (length cs) (k .0) (k .1) (k .3)))) front
+  -- with no live one before it, the cell itself is emitted
+  pub leaves-now : ((k : ℕ) → k < length cs → 1 ≤ nth cs k .place → So (isElder c (nth cs k)) → ⊥) → So (isEmitted n cs q)
+  leaves-now none = ⊎-elim (λ x. x) (λ k. absurd (none (k .0) (k .1) (omega (arith, emitted→ n cs (k .0) (k .2) .ready)) (k .3))) front
 
   -- with some before it, the cell stays, and one of them is emitted
   module _ (e : ℕ) (z : elders cs c ≡ suc e) where
