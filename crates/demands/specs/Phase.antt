@@ -56,23 +56,25 @@ module _ {n : ℕ} {key : Cell → ℕ} {v : ℕ} {r : ℕ → ℕ} {m : ℕ →
   unfolding Enters
   one-more f =
       ⊎-elim
-      (λ y. omega (arith, law .two f (u (y .0)) (younger→ key f (u (y .0)) (y .2) .2), count-either Y Y′ M n side, count-one M n single))
-      (λ h. omega (arith, count-none Y n h, law .one))
-      (find Y n)
+      (λ y.
+      let two = law .two f (u (y .0)) (younger→ key f (u (y .0)) (y .2) .2) in
+      omega (arith, two, count-either younger-after younger-before moves-there n side, count-one moves-there n single))
+      (λ h. omega (arith, count-none younger-after n h, law .one))
+      (find younger-after n)
     where
-      Y : ℕ → Bool
-      Y k = isYounger key f (u k)
+      younger-after : ℕ → Bool
+      younger-after k = isYounger key f (u k)
 
-      Y′ : ℕ → Bool
-      Y′ k = isYounger key f (t k)
+      younger-before : ℕ → Bool
+      younger-before k = isYounger key f (t k)
 
-      M : ℕ → Bool
-      M k = m k && eqb ((t k) .output .0) (f .output .0)
+      moves-there : ℕ → Bool
+      moves-there k = m k && eqb ((t k) .output .0) (f .output .0)
 
-      side : (k : ℕ) → k < n → So (Y k) → So (Y′ k) ⊎ So (M k)
+      side : (k : ℕ) → k < n → So (younger-after k) → So (younger-before k) ⊎ So (moves-there k)
       side k i x = ⊎-elim (λ z. inl z) (λ z. inr (join _ _ (z .0) (eq-eqb _ _ (z .1)))) (enter f k i x)
 
-      single : (j k : ℕ) → j < n → k < n → So (M j) → So (M k) → j ≡ k
+      single : (j k : ℕ) → j < n → k < n → So (moves-there j) → So (moves-there k) → j ≡ k
       single j k hj hk x y =
           let x′ = both _ _ x in
           let y′ = both _ _ y in
@@ -85,30 +87,30 @@ module _ {n : ℕ} {key : Cell → ℕ} {v : ℕ} {r : ℕ → ℕ} {m : ℕ →
     abbrev gone : ℕ → Bool
     gone k = m k && isAhead r (t l) (t k)
 
-    abbrev O : ℕ
-    O = (t l) .output .0
+    abbrev out : ℕ
+    out = (t l) .output .0
 
     -- the cells before l, and the ready ones for its output, before the phase and after it
-    A : ℕ → Bool
-    A k = isAhead r (t l) (t k)
+    ahead-before : ℕ → Bool
+    ahead-before k = isAhead r (t l) (t k)
 
-    A′ : ℕ → Bool
-    A′ k = isAhead r (t l) (u k)
+    ahead-after : ℕ → Bool
+    ahead-after k = isAhead r (t l) (u k)
 
-    R : ℕ → Bool
-    R k = isReadyFor (outputOf O) (t k)
+    ready-before : ℕ → Bool
+    ready-before k = isReadyFor (outputOf out) (t k)
 
-    R′ : ℕ → Bool
-    R′ k = isReadyFor (outputOf O) (u k)
+    ready-after : ℕ → Bool
+    ready-after k = isReadyFor (outputOf out) (u k)
 
     -- a cell moved that stands before l at its input
     from-input : (k : ℕ) × (k < n) × So (gone k) → Goal
-    unfolding A A′ R R′
+    unfolding ahead-before ahead-after ready-before ready-after
     from-input x =
         let d = x .0 in
         let g = both _ _ (x .2) in
-        let left = count-more A′ A n (stay (t l)) d (x .1) (g .1) (λ z. refuted (g .0) (unmoved d (x .1) (ahead→ r (t l) (u d) z .0))) in
-        omega (arith, inv .slack f l hf hl wl hfl, one-more (t f), mul-le-mul-left v left, count-mono R R′ n (grow O))
+        let left = count-more ahead-after ahead-before n (stay (t l)) d (x .1) (g .1) (λ z. refuted (g .0) (unmoved d (x .1) (ahead→ r (t l) (u d) z .0))) in
+        omega (arith, inv .slack f l hf hl wl hfl, one-more (t f), mul-le-mul-left v left, count-mono ready-before ready-after n (grow out))
 
     -- none did: then what is before l or f is a moved cell for its own output
     module _ (h : (k : ℕ) → k < n → So (gone k) → ⊥) where
@@ -132,17 +134,18 @@ module _ {n : ℕ} {key : Cell → ℕ} {v : ℕ} {r : ℕ → ℕ} {m : ℕ →
           (enter (t f) k i x)
 
       -- one more is ready for l's output
-      more : count R n + 1 ≤ count R′ n
-      unfolding R R′
+      more : count ready-before n + 1 ≤ count ready-after n
+      unfolding ready-before ready-after
       more =
           let d = exit l hl (→ahead r (t l) (t l) wl refl (omega arith)) nl in
-          count-more R R′ n (grow O) (d .0) (d .1) (rw (p .moved (d .0) (d .1) (d .2)) (→readyFor (outputOf O) (placed 2 (t (d .0))) refl (d .3)))
-          (λ z. omega (arith, readyFor→ (outputOf O) (t (d .0)) z .0, p .waits (d .0) (d .1) (d .2)))
+          count-more ready-before ready-after n (grow out) (d .0) (d .1)
+          (rw (p .moved (d .0) (d .1) (d .2)) (→readyFor (outputOf out) (placed 2 (t (d .0))) refl (d .3)))
+          (λ z. omega (arith, readyFor→ (outputOf out) (t (d .0)) z .0, p .waits (d .0) (d .1) (d .2)))
 
       from-output : Goal
-      unfolding A A′ R R′
+      unfolding ahead-before ahead-after ready-before ready-after
       from-output =
-          let left = count-mono A′ A n (stay (t l)) in
+          let left = count-mono ahead-after ahead-before n (stay (t l)) in
           let none = count-mono (λ k. isYounger key (t f) (u k)) (λ k. isYounger key (t f) (t k)) n (old (exit f hf hfl nf)) in
           omega (arith, inv .slack f l hf hl wl hfl, more, mul-le-mul-left v left, none)
 

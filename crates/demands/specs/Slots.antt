@@ -35,21 +35,21 @@ pub record Entry (n : ℕ) (t : Slot) (arrivals : List ℕ) (cs us : List Cell) 
 
 module _ (q : Policy) {n : ℕ} {t : Slot} {arrivals : List ℕ} {cs us : List Cell} (h : Entry n t arrivals cs us) where
   -- the table after the inhale and j phases
-  abbrev pub step : ℕ → List Cell
-  step j = phasesBy (λ i. q .pick n (readings us)) us j
+  abbrev pub tableAt : ℕ → List Cell
+  tableAt j = phasesBy (λ i. q .pick n (readings us)) us j
 
   -- the invariant there, for the reading at the end of the inhale
   abbrev pub Moving : ℕ → Type 0
-  Moving j = Slack (length cs) (q .key) (q .weight) (readyIn (length cs) (nth us)) (nth (step j)) j (q .weight)
+  Moving j = Slack (length cs) (q .key) (q .weight) (readyIn (length cs) (nth us)) (nth (tableAt j)) j (q .weight)
 
-  readied : (j : ℕ) → Readied us (step j)
+  readied : (j : ℕ) → Readied us (tableAt j)
   readied j = phases-readied (λ i. q .pick n (readings us)) us (λ i. q .waits n (readings us)) j
 
-  step-fit : (j : ℕ) → Fit n (slotOf (suc (t .0))) (step j)
-  step-fit j = readied-fit (readied j) (h .stays-fit)
+  tableAt-fit : (j : ℕ) → Fit n (slotOf (suc (t .0))) (tableAt j)
+  tableAt-fit j = readied-fit (readied j) (h .stays-fit)
 
-  length-step : (j : ℕ) → length (step j) ≡ length cs
-  length-step j = readied j .long ∙ h .came .long
+  length-tableAt : (j : ℕ) → length (tableAt j) ≡ length cs
+  length-tableAt j = readied j .long ∙ h .came .long
 
   -- the inhale takes the weight of one cell
   inhale-keeps : Rest q cs → Moving 0
@@ -58,24 +58,24 @@ module _ (q : Policy) {n : ℕ} {t : Slot} {arrivals : List ℕ} {cs us : List C
       (turn inv (inhale-turn (h .came) (q .weighs) (h .ports) (omega (arith, h .clock)) (h .fits) (h .stays-fit)) (omega arith) (omega arith))
 
   -- each phase gains 1
-  moves : (j : ℕ) → Phase (length cs) (q .key) (readyIn (length cs) (nth us)) (q .pick n (readings us) (step j)) (nth (step j)) (nth (step (suc j)))
+  moves : (j : ℕ) → Phase (length cs) (q .key) (readyIn (length cs) (nth us)) (q .pick n (readings us) (tableAt j)) (nth (tableAt j)) (nth (tableAt (suc j)))
   moves j =
-      rw (phasesBy-suc (λ i. q .pick n (readings us)) us j, sym (length-step j))
-      (advance-phase (readyIn (length (step j)) (nth us)) (h .ports) (omega (arith, h .clock)) (step-fit j)
+      rw (phasesBy-suc (λ i. q .pick n (readings us)) us j, sym (length-tableAt j))
+      (advance-phase (readyIn (length (tableAt j)) (nth us)) (h .ports) (omega (arith, h .clock)) (tableAt-fit j)
       (λ o m. reading-is us o m ∙ ap (λ (k : ℕ). readyIn k (nth us) (o .0)) (sym (readied j .long)))
-      (q .waits n (readings us) (step j)) (q .advances (step-fit j) (h .ports) (readings us)))
+      (q .waits n (readings us) (tableAt j)) (q .advances (tableAt-fit j) (h .ports) (readings us)))
 
   phases-keep : Rest q cs → (j : ℕ) → Moving j
   phases-keep inv zero = inhale-keeps inv
   phases-keep inv (suc j) = phase-gains (q .weighs) (moves j) (phases-keep inv j)
 
-  exhales : (j : ℕ) → Turn (length cs) (q .key) (nth (step j)) (nth (exhale n (step j))) 0 1
-  exhales j = rw (sym (length-step j)) (exhale-turn (step-fit j) (q .key) (h .ports) (omega (arith, h .clock)))
+  exhales : (j : ℕ) → Turn (length cs) (q .key) (nth (tableAt j)) (nth (exhale n (tableAt j))) 0 1
+  exhales j = rw (sym (length-tableAt j)) (exhale-turn (tableAt-fit j) (q .key) (h .ports) (omega (arith, h .clock)))
 
   module _ (inv : Rest q cs) where
-    pub slot-leads : {s : ℕ} → 1 ≤ s → Led (length (step s)) (q .key) (nth (step s))
-    slot-leads {s} some = rw (length-step s) (slack-led (omega arith) (phases-keep inv s))
+    pub slot-leads : {s : ℕ} → 1 ≤ s → Led (length (tableAt s)) (q .key) (nth (tableAt s))
+    slot-leads {s} some = rw (length-tableAt s) (slack-led (omega arith) (phases-keep inv s))
 
     -- the exhale takes one of what the phases gained above the weight
-    pub slot-rests : {s : ℕ} → q .weight < s → Rest q (exhale n (step s))
-    slot-rests {s} fast = rw (length-exhale n (step s) ∙ length-step s) (turn (phases-keep inv s) (exhales s) (omega arith) (omega arith))
+    pub slot-rests : {s : ℕ} → q .weight < s → Rest q (exhale n (tableAt s))
+    slot-rests {s} fast = rw (length-exhale n (tableAt s) ∙ length-tableAt s) (turn (phases-keep inv s) (exhales s) (omega arith) (omega arith))

@@ -44,22 +44,22 @@ pub record Turn (n : ℕ) (key : Cell → ℕ) (t u : ℕ → Cell) (g e : ℕ) 
 module _ {n : ℕ} {key : Cell → ℕ} {v : ℕ} {r : ℕ → ℕ} {t u : ℕ → Cell} {a b c g e : ℕ}
     (inv : Slack n key v r t a b) (m : Turn n key t u g e) (fits : e + b + v * g ≤ a + c) (fits′ : v * g ≤ c) where
   module _ (f l : ℕ) (hf : f < n) (hl : l < n) (wl : (u l) .place ≡ 1) (hfl : So (isAhead (readyIn n u) (u l) (u f))) where
-    abbrev A : Cell → Bool
-    A x = isAhead (readyIn n u) (u l) x
+    abbrev before-l : Cell → Bool
+    before-l x = isAhead (readyIn n u) (u l) x
 
     abbrev old : ℕ → Bool
-    old k = A (u k) && eqb ((t k) .place) 1
+    old k = before-l (u k) && eqb ((t k) .place) 1
 
     abbrev Goal : Type 0
-    Goal = count (λ k. isYounger key (u f) (u k)) n + v * count (λ k. A (u k)) n + 0 ≤ readyIn n u ((u l) .output .0) + c
+    Goal = count (λ k. isYounger key (u f) (u k)) n + v * count (λ k. before-l (u k)) n + 0 ≤ readyIn n u ((u l) .output .0) + c
 
     -- a cell of u that stands before l is an old one, or comes
-    side : (k : ℕ) → k < n → So (A (u k)) → So (old k) ⊎ So (comes t u ((u l) .input .0) k)
+    side : (k : ℕ) → k < n → So (before-l (u k)) → So (old k) ⊎ So (comes t u ((u l) .input .0) k)
     side k i x =
         let h = ahead→ (readyIn n u) (u l) (u k) x in
         ⊎-elim (λ y. inl (join _ _ x y)) (λ y. inr (→comes t u ((u l) .input .0) k y (h .0) (h .1))) (passes (eqb ((t k) .place) 1))
 
-    was : (k : ℕ) → k < n → So (old k) → So (A (u k)) × ((t k) .place ≡ 1) × (u k ≡ t k)
+    was : (k : ℕ) → k < n → So (old k) → So (before-l (u k)) × ((t k) .place ≡ 1) × (u k ≡ t k)
     was k i x =
         let h = both _ _ x in
         let w : (t k) .place ≡ 1 = eqb-true _ _ (h .1) in
@@ -73,11 +73,11 @@ module _ {n : ℕ} {key : Cell → ℕ} {v : ℕ} {r : ℕ → ℕ} {t u : ℕ �
     all-come : ((k : ℕ) → k < n → So (old k) → ⊥) → Goal
     all-come no′ = ⊎-elim (λ y. absurd (no′ f hf y)) (λ y. omega (arith, none y, mul-le-mul-left v few′)) (side f hf hfl)
       where
-        only : (k : ℕ) → k < n → So (A (u k)) → So (comes t u ((u l) .input .0) k)
+        only : (k : ℕ) → k < n → So (before-l (u k)) → So (comes t u ((u l) .input .0) k)
         only k i x = ⊎-elim (λ y. absurd (no′ k i y)) (λ y. y) (side k i x)
 
-        few′ : count (λ k. A (u k)) n ≤ g
-        few′ = omega (arith, m .few ((u l) .input .0), count-mono (λ k. A (u k)) (comes t u ((u l) .input .0)) n only)
+        few′ : count (λ k. before-l (u k)) n ≤ g
+        few′ = omega (arith, m .few ((u l) .input .0), count-mono (λ k. before-l (u k)) (comes t u ((u l) .input .0)) n only)
 
     -- d is the last, by the old reading, of the old cells before l
     module _ (d : ℕ) (hd : d < n) (od : So (old d)) (last : (j : ℕ) → j < n → So (old j) → rank r (t j) ≤ rank r (t d)) where
@@ -89,13 +89,13 @@ module _ {n : ℕ} {key : Cell → ℕ} {v : ℕ} {r : ℕ → ℕ} {t u : ℕ �
           let h′ = ahead→ (readyIn n u) (u l) (u d) (w .0) in
           →ahead r (t d) (t k) (p .1) (cc (w .2)) (last k i y)
 
-      both-sides : (k : ℕ) → k < n → So (A (u k)) → So (isAhead r (t d) (t k)) ⊎ So (comes t u ((u l) .input .0) k)
+      both-sides : (k : ℕ) → k < n → So (before-l (u k)) → So (isAhead r (t d) (t k)) ⊎ So (comes t u ((u l) .input .0) k)
       both-sides k i y = ⊎-elim (λ z. inl (ranked k i z)) (λ z. inr z) (side k i y)
 
-      many : count (λ k. A (u k)) n ≤ count (λ k. isAhead r (t d) (t k)) n + g
+      many : count (λ k. before-l (u k)) n ≤ count (λ k. isAhead r (t d) (t k)) n + g
       many =
           let i = (u l) .input .0 in
-          omega (arith, m .few i, count-either (λ k. A (u k)) (λ k. isAhead r (t d) (t k)) (comes t u i) n both-sides)
+          omega (arith, m .few i, count-either (λ k. before-l (u k)) (λ k. isAhead r (t d) (t k)) (comes t u i) n both-sides)
 
       lower : readyIn n t ((t d) .output .0) ≤ readyIn n u ((u l) .output .0) + e
       lower =
