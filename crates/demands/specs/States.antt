@@ -25,7 +25,7 @@ use Rattle.ideal.specs.Calls.{Accepted, full, entered-fit, slot-cells, slot-fit
 use Rattle.ideal.specs.Runs.{KeptBySlots, MadeByStarts, slot-accepts, slot-does, start-does, from-fresh}
 use Rattle.demands.specs.Policy.{Policy, by-age}
 use Rattle.demands.specs.Led.{Led}
-use Rattle.demands.specs.Slots.{Rest, Entry, slot-leads, slot-rests}
+use Rattle.demands.specs.Slots.{Rest, Laden, Entry, inhale-laden, slot-leads, slot-rests}
 
 -- The policy in force ----------------------------------------------------------------------------
 
@@ -56,12 +56,17 @@ module _ {w : Switch} {table : List ℕ} {ls : Lists} (a : Accepted w table ls) 
   }
 
   module _ {rule : Switch → Policy} (ruled : Ruled rule) (fast : rule w .weight < w .speedup) (inv : Rest (rule w) (cellsOf table)) where
+    laden : Laden (rule w) (full a)
+    laden = inhale-laden (rule w) entry inv
+
     pub call-leads : Led (length (transferred w (full a))) (rule w .key) (nth (transferred w (full a)))
-    call-leads = rw (ruled .made w (full a)) (slot-leads (rule w) entry inv (omega arith))
+    call-leads = rw (ruled .made w (full a)) (slot-leads (rule w) (entry .ports) (omega (arith, entry .clock)) (entry .stays-fit) laden (omega arith))
 
     call-rests : Rest (rule w) (cellsOf (slotRuns w table (ls .arrivals) .table))
     unfolding transferred
-    call-rests = rw (slot-cells a ∙ ap (exhale (w .ports)) (ruled .made w (full a))) (slot-rests (rule w) entry inv fast)
+    call-rests =
+        rw (slot-cells a ∙ ap (exhale (w .ports)) (ruled .made w (full a)))
+        (slot-rests (rule w) (entry .ports) (omega (arith, entry .clock)) (entry .stays-fit) laden fast)
 
 -- The states of a run ----------------------------------------------------------------------------
 
