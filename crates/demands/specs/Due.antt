@@ -19,13 +19,13 @@ use Rattle.rules.specs.Phases.{isEmitted, exhale, exhaled}
 use Rattle.rules.specs.Model.{same}
 use Rattle.rules.specs.Demands.{elders, emits, emitted, Leaves}
 use Rattle.ideal.specs.Cells.{entered≡, input≡, →same}
-use Rattle.ideal.specs.Fit.{Fit, Stays, stays-refl}
+use Rattle.ideal.specs.Fit.{Fit, Stays, stays-refl, stays-on}
 use Rattle.ideal.specs.Inhale.{Inhaled, inhaled-was}
 use Rattle.ideal.specs.Exhale.{emitted→, length-exhale, exhale-kept, exhale-left}
 use Rattle.ideal.specs.Exhaled.{shown, shown→}
 use Rattle.demands.specs.Ages.{age}
 use Rattle.demands.specs.Led.{Led}
-use Rattle.demands.specs.Elders.{Holds, elders-hold, no-elders, stays-same, stays-on, leaves-now, stays-behind, one-fewer}
+use Rattle.demands.specs.Elders.{Holds, elders-hold, no-elders, leaves-now, stays-behind, one-fewer}
 
 -- no live record has c's slot and input
 abbrev pub Gone : Cell → List Cell → Type 0
@@ -58,7 +58,7 @@ due-hold {c} {s} {t} {b} {cs} {us} h early (inr g) = inr (g .0, gone)
         let m : q < length cs = omega (arith, h .long) in
         ⊎-elim
         (λ z. omega (arith, h .new q m z w))
-        (λ z. let x = h .stays q m z in g .1 q m z (sym (x .entered) ∙ e) (sym (x .input) ∙ i))
+        (λ z. let x = h .stays q m z in g .1 q m z (sym (x .same .entered) ∙ e) (sym (x .same .input) ∙ i))
         (eq-zero-or-pos (nth cs q .place))
 
 pub inhale-holds : {n i : ℕ} {t : Slot} {arrivals : List ℕ} {cs us : List Cell} → Inhaled t arrivals i cs us → Fit n t cs → Holds (t .0) cs us
@@ -127,7 +127,7 @@ module _ (w : Switch) {t : Slot} {cs : List Cell} (f : Fit (w .ports) t cs) (c :
   module _ {q : ℕ} (l : q < length cs) (y : Stays c (nth cs q)) where
     -- a record with c's slot and input is q
     mine : (k : ℕ) → k < length cs → 1 ≤ nth cs k .place → nth cs k .entered .0 ≡ c .entered .0 → nth cs k .input .0 ≡ c .input .0 → k ≡ q
-    mine k m v e i = f .apart k q m l v (y .lives) (e ∙ sym (y .entered)) (i ∙ sym (y .input))
+    mine k m v e i = f .apart k q m l v (y .lives) (e ∙ sym (y .same .entered)) (i ∙ sym (y .same .input))
 
     shown-mine : {o : ℕ} (k : Shows o) → k .number ≡ q
     shown-mine k = mine (k .number) (k .below) (k .lives) (k .entered) (k .input)
@@ -136,14 +136,14 @@ module _ (w : Switch) {t : Slot} {cs : List Cell} (f : Fit (w .ports) t cs) (c :
     first-exhale : (s : ℕ) → w .next .0 ≡ s → So (isEmitted (w .ports) cs q) → Departs w cs c s
     first-exhale s now x = (
       record {
-        then = λ e. subst (λ (o : ℕ). So (emits list o) × So (same (emitted list o) c)) (y .output) own;
-        once = λ o m z i e. let k = shows o m z i e in (now, sym (k .output) ∙ ap (λ (j : ℕ). nth cs j .output .0) (shown-mine k) ∙ y .output);
+        then = λ e. subst (λ (o : ℕ). So (emits list o) × So (same (emitted list o) c)) (y .same .output) own;
+        once = λ o m z i e. let k = shows o m z i e in (now, sym (k .output) ∙ ap (λ (j : ℕ). nth cs j .output .0) (shown-mine k) ∙ y .same .output);
       },
       inr (omega (arith, now), gone),
     )
       where
         own : So (emits list (nth cs q .output .0)) × So (same (emitted list (nth cs q .output .0)) c)
-        own = let a = shown (w .ports) cs q x in (a .0, rw (a .1) (→same (nth cs q) c (stays-same y)))
+        own = let a = shown (w .ports) cs q x in (a .0, rw (a .1) (→same (nth cs q) c (y .same)))
 
         gone : Gone c (exhale (w .ports) cs)
         gone k m v e i =

@@ -18,7 +18,7 @@ use Rattle.rules.specs.declared.Cell.{Cell}
 use Rattle.rules.specs.Cells.{mostPorts, nth, sameOutput, older}
 use Rattle.rules.specs.Phases.{isEmitted, exhale}
 use Rattle.rules.specs.Demands.{isElder, elders}
-use Rattle.ideal.specs.Cells.{place≡, Same, same-self, live→, →live, older-same, older-tie}
+use Rattle.ideal.specs.Cells.{place≡, same-self, live→, →live, older-same, older-tie}
 use Rattle.ideal.specs.Fit.{Fit, Stays}
 use Rattle.ideal.specs.Phases.{Readied, readied-stays, readied-free}
 use Rattle.ideal.specs.Exhale.{emitted→, length-exhale, exhale-left}
@@ -46,20 +46,6 @@ pub no-elders : (cs : List Cell) (c : Cell) → elders cs c ≡ 0 → (k : ℕ) 
 unfolding elders
 no-elders cs c z k l x = omega (arith, z, count-hit (λ j. isElder c (nth cs j)) (length cs) k l x)
 
-pub stays-same : {c d : Cell} → Stays c d → Same d c
-stays-same s = record { input = s .input; output = s .output; entered = s .entered; tag = s .tag }
-
-pub stays-on : {c d e : Cell} → Stays c d → Stays d e → Stays c e
-stays-on s q = record {
-  was = s .was;
-  lives = q .lives;
-  top = q .top;
-  input = q .input ∙ s .input;
-  output = q .output ∙ s .output;
-  entered = q .entered ∙ s .entered;
-  tag = q .tag ∙ s .tag;
-}
-
 -- Between exhales --------------------------------------------------------------------------------
 
 -- from cs to us: what is live stays, and what is new entered in slot t or later
@@ -73,17 +59,17 @@ unfolding elders
 elders-hold {t} {cs} {us} h c early = rw (h .long) (count-same (λ k. isElder c (nth us k)) (λ k. isElder c (nth cs k)) (length cs) down up)
   where
     move : (k : ℕ) → Stays (nth cs k) (nth us k) → older (nth us k) c ≡ older (nth cs k) c
-    move k s = older-same (nth us k) (nth cs k) c c (stays-same s) (same-self c)
+    move k s = older-same (nth us k) (nth cs k) c c (s .same) (same-self c)
 
     up : (k : ℕ) → k < length cs → So (isElder c (nth cs k)) → So (isElder c (nth us k))
-    up k l x = let e = elder→ c (nth cs k) x in let s = h .stays k l (e .0) in →elder c (nth us k) (s .lives) (s .output ∙ e .1) (move k s ∙ e .2)
+    up k l x = let e = elder→ c (nth cs k) x in let s = h .stays k l (e .0) in →elder c (nth us k) (s .lives) (s .same .output ∙ e .1) (move k s ∙ e .2)
 
     down : (k : ℕ) → k < length cs → So (isElder c (nth us k)) → So (isElder c (nth cs k))
     down k l x =
         let e = elder→ c (nth us k) x in
         ⊎-elim
         (λ z. absurd (omega (arith, h .new k l z (e .0), older-entered c (nth us k) (e .2))))
-        (λ w. let s = h .stays k l w in →elder c (nth cs k) w (sym (s .output) ∙ e .1) (sym (move k s) ∙ e .2))
+        (λ w. let s = h .stays k l w in →elder c (nth cs k) w (sym (s .same .output) ∙ e .1) (sym (move k s) ∙ e .2))
         (eq-zero-or-pos (nth cs k .place))
 
 -- phases of any picking of waiting records
@@ -99,7 +85,7 @@ readied-holds t f h = record {
 module _ {n : ℕ} {t : Slot} {cs : List Cell} (ports : n ≤ mostPorts) (f : Fit n t cs) (led : Led (length cs) age (nth cs))
     {c : Cell} {q : ℕ} (l : q < length cs) (s : Stays c (nth cs q)) where
   as-c : (d : Cell) → older d (nth cs q) ≡ older d c
-  as-c d = older-same d d (nth cs q) c (same-self d) (stays-same s)
+  as-c d = older-same d d (nth cs q) c (same-self d) (s .same)
 
   -- what its output emits is the cell itself, or one before it
   front : So (isEmitted n cs q) ⊎ ((k : ℕ) × (k < length cs) × So (isEmitted n cs k) × So (isElder c (nth cs k)))
@@ -107,7 +93,7 @@ module _ {n : ℕ} {t : Slot} {cs : List Cell} (ports : n ≤ mostPorts) (f : Fi
       let k = works f led q l (s .lives) in
       let w : 1 ≤ nth cs (k .0) .place = omega (arith, emitted→ n cs (k .0) (k .2) .ready) in
       ⊎-elim
-      (λ h. inr (k .0, k .1, k .2, →elder c (nth cs (k .0)) w (k .3 ∙ s .output) (sym (as-c (nth cs (k .0))) ∙ h)))
+      (λ h. inr (k .0, k .1, k .2, →elder c (nth cs (k .0)) w (k .3 ∙ s .same .output) (sym (as-c (nth cs (k .0))) ∙ h)))
       (λ h.
       let e = older-tie (nth cs (k .0)) (nth cs q) h (orders ports f led (k .0) q (k .2) l (s .lives) (sym (k .3))) in
       inl (subst (λ j. So (isEmitted n cs j)) (f .apart (k .0) q (k .1) l w (s .lives) (e .0) (e .1)) (k .2)))
@@ -124,7 +110,7 @@ module _ {n : ℕ} {t : Slot} {cs : List Cell} (ports : n ≤ mostPorts) (f : Fi
     stays-behind =
         let j = count-some (λ j. isElder c (nth cs j)) (length cs) (omega (arith, z)) in
         let b = elder→ c (nth cs (j .0)) (j .2) in
-        to-no (λ x. refuted (as-c (nth cs (j .0)) ∙ b .2) (orders ports f led q (j .0) x (j .1) (b .0) (b .1 ∙ sym (s .output))))
+        to-no (λ x. refuted (as-c (nth cs (j .0)) ∙ b .2) (orders ports f led q (j .0) x (j .1) (b .0) (b .1 ∙ sym (s .same .output))))
 
     gone : (k : ℕ) × (k < length cs) × So (isEmitted n cs k) × So (isElder c (nth cs k))
     gone = ⊎-elim (λ x. absurd (refuted x stays-behind)) (λ k. k) front

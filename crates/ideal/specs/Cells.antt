@@ -141,19 +141,20 @@ same-cell c d p s = cell-ext c d field
 pub same-self : (c : Cell) → Same c c
 same-self c = record { input = refl; output = refl; entered = refl; tag = refl }
 
+pub same-back : {c d : Cell} → Same c d → Same d c
+same-back s = record { input = sym (s .input); output = sym (s .output); entered = sym (s .entered); tag = sym (s .tag) }
+
+pub same-on : {c d e : Cell} → Same c d → Same d e → Same c e
+same-on s q = record { input = s .input ∙ q .input; output = s .output ∙ q .output; entered = s .entered ∙ q .entered; tag = s .tag ∙ q .tag }
+
 pub same-refl : (c : Cell) → So (same c c)
 same-refl c = →same c c (same-self c)
 
 pub same-sym : (c d : Cell) → So (same c d) → So (same d c)
-same-sym c d h =
-    let s = same→ c d h in
-    →same d c (record { input = sym (s .input); output = sym (s .output); entered = sym (s .entered); tag = sym (s .tag) })
+same-sym c d h = →same d c (same-back (same→ c d h))
 
 pub same-trans : (c d e : Cell) → So (same c d) → So (same d e) → So (same c e)
-same-trans c d e h k =
-    let s = same→ c d h in
-    let q = same→ d e k in
-    →same c e (record { input = s .input ∙ q .input; output = s .output ∙ q .output; entered = s .entered ∙ q .entered; tag = s .tag ∙ q .tag })
+same-trans c d e h k = →same c e (same-on (same→ c d h) (same→ d e k))
 
 -- at another place it is the same cell
 pub placed-same : (p : ℕ) (c : Cell) → Same (placed p c) c

@@ -16,7 +16,7 @@ use Rattle.laws.specs.Order.{neither-lower}
 use Rattle.rules.specs.declared.Slot.{Slot}
 use Rattle.rules.specs.declared.Cell.{Cell}
 use Rattle.rules.specs.Cells.{free, nth, isFree, isBlank, isSound, isAlone, sameEntry, fit, before}
-use Rattle.ideal.specs.Cells.{place≡, same-cell, free→, →free, live→, →live, sameEntry→, →sameEntry, before-tie}
+use Rattle.ideal.specs.Cells.{place≡, Same, same-cell, same-self, same-on, free→, →free, live→, →live, sameEntry→, →sameEntry, before-tie}
 
 -- a record by itself
 pub record Sound (n : ℕ) (t : Slot) (c : Cell) : Type 0 where
@@ -123,26 +123,26 @@ pub record Stays (c d : Cell) : Type 0 where
   pub was : 1 ≤ c .place
   pub lives : 1 ≤ d .place
   pub top : d .place ≤ 2
-  pub input : d .input .0 ≡ c .input .0
-  pub output : d .output .0 ≡ c .output .0
-  pub entered : d .entered .0 ≡ c .entered .0
-  pub tag : d .tag ≡ c .tag
+  pub same : Same d c
 
 pub stays-sound : {n : ℕ} {t : Slot} {c d : Cell} → Stays c d → Sound n t c → Sound n t d
 stays-sound s f =
     record {
       place = s .top;
       blank = λ w. absurd (omega (arith, s .lives));
-      input = λ w. omega (arith, f .input (s .was));
-      output = λ w. omega (arith, f .output (s .was));
-      entered = λ w. omega (arith, f .entered (s .was));
+      input = λ w. omega (arith, s .same .input, f .input (s .was));
+      output = λ w. omega (arith, s .same .output, f .output (s .was));
+      entered = λ w. omega (arith, s .same .entered, f .entered (s .was));
     }
 
 pub stays-itself : (c : Cell) → 1 ≤ c .place → c .place ≤ 2 → Stays c c
-stays-itself c w t = record { was = w; lives = w; top = t; input = refl; output = refl; entered = refl; tag = refl }
+stays-itself c w t = record { was = w; lives = w; top = t; same = same-self c }
 
 pub stays-refl : {n : ℕ} {t : Slot} (c : Cell) → Sound n t c → 1 ≤ c .place → Stays c c
 stays-refl c s w = stays-itself c w (s .place)
+
+pub stays-on : {c d e : Cell} → Stays c d → Stays d e → Stays c e
+stays-on s q = record { was = s .was; lives = q .lives; top = q .top; same = same-on (q .same) (s .same) }
 
 -- each record is free, or stays: then a table is fit where the one before it is
 pub fit-part : {n : ℕ} {t : Slot} {cs us : List Cell} → Fit n t cs → length us ≡ length cs

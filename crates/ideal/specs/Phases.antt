@@ -18,7 +18,7 @@ use Rattle.rules.specs.declared.Cell.{Cell}
 use Rattle.rules.specs.Cells.{free, nth, placed, isWaiting, isLive}
 use Rattle.rules.specs.Answers.{live}
 use Rattle.rules.specs.Phases.{matchOf, moved, phase, phases}
-use Rattle.ideal.specs.Cells.{waiting→, →waiting, →live}
+use Rattle.ideal.specs.Cells.{waiting→, →waiting, →live, placed-same}
 use Rattle.ideal.specs.Fit.{Sound, Fit, Stays, stays-refl, fit-part}
 use Rattle.ideal.specs.Match.{match-waits}
 
@@ -75,7 +75,7 @@ module _ {cs us : List Cell} (h : Readied cs us) where
   readied-stays k l s w =
       ⊎-elim
       (λ e. rw e (stays-refl (nth cs k) s w))
-      (λ e. rw (e .1) (record { was = w; lives = omega arith; top = omega arith; input = refl; output = refl; entered = refl; tag = refl }))
+      (λ e. rw (e .1) (record { was = w; lives = omega arith; top = omega arith; same = placed-same 2 (nth cs k) }))
       (h .each k l)
 
   pub readied-fit : {n : ℕ} {t : Slot} → Fit n t cs → Fit n t us
