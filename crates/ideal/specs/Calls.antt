@@ -1,6 +1,6 @@
 -- What an accepted call says of its input and leaves: a fit table for the next slot, by the published model; and what a refused one leaves.
 -- Assumes nothing.
-use mathlib.Core.Path.{_≡_, refl, ap}
+use mathlib.Core.Path.{_≡_, refl}
 use mathlib.Core.Logic.{⊎-elim}
 use mathlib.Core.Bool.{So, not}
 use mathlib.Core.List.{List}
@@ -24,7 +24,7 @@ use Rattle.rules.specs.Phases.{readings, matchOf, phases, isEmitted, exhale}
 use Rattle.rules.specs.Calls.{startsFresh, startRefused, freshStart, entered, transferred, slotRuns, slotRefused, slot}
 use Rattle.rules.specs.Model.{among, arrived, Initial, Slotted}
 use Rattle.words.specs.Words.{length-cellsOf, cellsOf-wordsOf, cellsOf-zeros}
-use Rattle.ideal.specs.Cells.{live→, same-refl}
+use Rattle.ideal.specs.Cells.{place≡, live→, same-refl}
 use Rattle.ideal.specs.Fit.{Fit, fit→, free-sound}
 use Rattle.ideal.specs.Match.{match-is}
 use Rattle.ideal.specs.Phases.{phases-suc, phases-fit}
@@ -80,7 +80,8 @@ module _ (w : Switch) (table : List ℕ) where
   unfolding refuses isDone holdsFor sameAnswer
   table-passed h = fit→ (w .ports) (w .next) (cellsOf table) (not-false _ (passed (tableChecks w table) refl h Unfit))
 
-  pub room-passed : (arrivals : List ℕ) → So (isDone (firstOf (roomChecks w table arrivals))) → live (cellsOf table) + arriving (w .ports) arrivals ≤ length (cellsOf table)
+  pub room-passed : (arrivals : List ℕ) → So (isDone (firstOf (roomChecks w table arrivals)))
+      → live (cellsOf table) + arriving (w .ports) arrivals ≤ length (cellsOf table)
   unfolding refuses isDone holdsFor sameAnswer
   room-passed arrivals h = rw (length-cellsOf table) (ltb-false (records table) _ (passed (roomChecks w table arrivals) refl h NoRoom))
 
@@ -161,7 +162,7 @@ pub fresh-fit : (w : Switch) (table : List ℕ) → Fit (w .ports) (slotOf 0) (c
 fresh-fit w table =
     record {
       each = λ k l. rw (cellsOf-zeros (length table) k) (free-sound (w .ports) (slotOf 0));
-      apart = λ j k hj hk wj wk e i. absurd (omega (arith, ap (λ (c : Cell). c .place) (cellsOf-zeros (length table) j)));
+      apart = λ j k hj hk wj wk e i. absurd (omega (arith, place≡ (cellsOf-zeros (length table) j)));
     }
 
 pub fresh-initial : (w : Switch) (table : List ℕ) → Initial (cellsOf (startsFresh w table .table))

@@ -7,8 +7,8 @@ use mathlib.Core.Bool.{Bool, So, true, false, not, cond, _&&_, _||_, false≢tru
 use mathlib.Core.List.{List, [], _∷_, _++_}
 use Prim.Native.Nat.{ℕ}
 use lib.Dec.{eqb}
-use borrow.Author.Tests.{eqb-true, eqb-false, eq-eqb}
-use Rattle.laws.specs.Tests.{No, passes, refuted, both, either, neither, on-left, on-right, denied, cond-true, cond-false}
+use borrow.Author.Tests.{eqb-true, eq-eqb}
+use Rattle.laws.specs.Tests.{No, passes, refuted, both, neither, on-left, on-right, denied, cond-true, cond-false}
 use Rattle.rules.specs.declared.Switch.{Switch}
 use Rattle.rules.specs.declared.Answer.{Answer}
 use Rattle.rules.specs.declared.Answer.the-variants.{Done}
@@ -72,7 +72,9 @@ of-a-row [] a e = inr e
 of-a-row (c ∷ cs) a e =
     ⊎-elim
     (λ h. inl (on-left (sameAnswer a (c .answer)) (hasRow a cs) (ap (sameAnswer a) (sym (first-holds c cs h)) ∙ e)))
-    (λ h. ⊎-elim (λ x. inl (on-right (sameAnswer a (c .answer)) (hasRow a cs) x)) (λ x. inr x) (of-a-row cs a (ap (sameAnswer a) (sym (first-later c cs h)) ∙ e)))
+    (λ h.
+    let rest = of-a-row cs a (ap (sameAnswer a) (sym (first-later c cs h)) ∙ e) in
+    ⊎-elim (λ x. inl (on-right (sameAnswer a (c .answer)) (hasRow a cs) x)) (λ x. inr x) rest)
     (passes (c .holds))
 
 module _ (a : Answer) (c : Check) (cs : List Check) where
@@ -133,7 +135,10 @@ unfolding ownAnswers firstOf sameAnswer isDone
 given→ [] own a d e = absurd (refuted e d)
 given→ (c ∷ cs) own a d e =
     let b = both (not (hasRow (c .answer) cs)) (ownAnswers cs) own in
-    ⊎-elim (λ s. first→ a c cs s d (same-row a (c .answer) s cs ∙ denied _ (b .0)) e) (λ s. later→ a c cs s (given→ cs (b .1) a d) e) (passes (sameAnswer a (c .answer)))
+    ⊎-elim
+    (λ s. first→ a c cs s d (same-row a (c .answer) s cs ∙ denied _ (b .0)) e)
+    (λ s. later→ a c cs s (given→ cs (b .1) a d) e)
+    (passes (sameAnswer a (c .answer)))
 
 →given : (cs : List Check) (a : Answer) → Given a cs → So (sameAnswer a (firstOf cs))
 unfolding holdsFor
@@ -150,7 +155,10 @@ unfolding anyHolds
 done→ [] r d = refl
 done→ (c ∷ cs) r d =
     let q = refuses-here c cs r in
-    ⊎-elim (λ h. absurd (refuted (ap isDone (sym (first-holds c cs h)) ∙ d) (q .0))) (λ h. rw h (done→ cs (q .1) (ap isDone (sym (first-later c cs h)) ∙ d))) (passes (c .holds))
+    ⊎-elim
+    (λ h. absurd (refuted (ap isDone (sym (first-holds c cs h)) ∙ d) (q .0)))
+    (λ h. rw h (done→ cs (q .1) (ap isDone (sym (first-later c cs h)) ∙ d)))
+    (passes (c .holds))
 
 -- and then it is done itself
 pub none-holds : (cs : List Check) → No (anyHolds cs) → firstOf cs ≡ Done
@@ -171,7 +179,10 @@ unfolding anyHolds holdsFor
 not-held [] h a = refl
 not-held (c ∷ cs) h a =
     let n = neither (c .holds) (anyHolds cs) h in
-    ⊎-elim (λ s. cond-true _ (c .holds) (holdsFor a cs) s ∙ n .0) (λ s. cond-false _ (c .holds) (holdsFor a cs) s ∙ not-held cs (n .1) a) (passes (sameAnswer a (c .answer)))
+    ⊎-elim
+    (λ s. cond-true _ (c .holds) (holdsFor a cs) s ∙ n .0)
+    (λ s. cond-false _ (c .holds) (holdsFor a cs) s ∙ not-held cs (n .1) a)
+    (passes (sameAnswer a (c .answer)))
 
 pub passed : (cs : List Check) → So (refuses cs) → So (isDone (firstOf cs)) → (a : Answer) → No (holdsFor a cs)
 passed cs r d = not-held cs (done→ cs r d)

@@ -20,11 +20,14 @@ module _ {A : Type 0} {inside : A → Type 0} {clash before : A → A → Bool} 
       go : (d : A) × inside d × So (y d) × So (clash d c) × So (before d c) → ⊥
       go d = a .apart (d .0) c (d .1) i (below (d .0) (d .1) (d .4) (d .2)) h (d .3) (d .4)
 
-  module _ {x y : A → Bool} (rank : A → ℕ) (falls : (d c : A) → inside d → So (before d c) → rank d < rank c) (a : Choice inside clash before x) (b : Choice inside clash before y) where
+  module _ {x y : A → Bool} (rank : A → ℕ) (falls : (d c : A) → inside d → So (before d c) → rank d < rank c)
+      (a : Choice inside clash before x) (b : Choice inside clash before y) where
     both-ways : (q : ℕ) (c : A) → inside c → rank c < q → (So (x c) → So (y c)) × (So (y c) → So (x c))
     both-ways zero c i l = absurd (omega arith)
-    both-ways (suc q) c i l =
-        (taken-too a b c i (λ d j h. both-ways q d j (omega (arith, falls d c j h)) .1), taken-too b a c i (λ d j h. both-ways q d j (omega (arith, falls d c j h)) .0))
+    both-ways (suc q) c i l = (
+      taken-too a b c i (λ d j h. both-ways q d j (omega (arith, falls d c j h)) .1),
+      taken-too b a c i (λ d j h. both-ways q d j (omega (arith, falls d c j h)) .0),
+    )
 
     pub choice-unique : (c : A) → inside c → x c ≡ y c
     choice-unique c i = let e = both-ways (suc (rank c)) c i (omega arith) in same-test (x c) (y c) (e .0) (e .1)

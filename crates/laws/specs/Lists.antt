@@ -7,7 +7,7 @@ use mathlib.Core.Bool.{Bool, true, false, cond}
 use mathlib.Core.List.{List, [], _∷_, _++_, append-nil}
 use native.Mathlib.Omega.{arith}
 use native.Mathlib.Numerals.{add-one}
-use native.Mathlib.Nat.{suc-mul, mul-le-mul-right, add-zero, add-suc, suc-add}
+use native.Mathlib.Nat.{suc-mul, mul-le-mul-right, add-zero}
 use lib.Dec.{eqb}
 use lib.ListN.{length, getD, set, take, drop, replicate, length-set, length-append, List·getD-append}
 use lib.Seq.{ext-getD, getD-at, getD-append-add, getD-set-same, getD-set-other, sets, sets-eq, take-at, drop-length}
@@ -41,7 +41,9 @@ tabulate-same d f g n h =
     (λ i l. let m : i < n = rw (length-tabulate f n) at l in getD-tabulate f n d i m ∙ h i m ∙ sym (getD-tabulate g n d i m))
 
 pub tabulate-getD : {A : Type 0} (d : A) (l : List A) → tabulate (length l) (λ k. getD l k d) ≡ l
-tabulate-getD d l = ext-getD d (tabulate (length l) (λ k. getD l k d)) l (length-tabulate _ _) (λ i h. getD-tabulate _ _ d i (rw (length-tabulate (λ k. getD l k d) (length l)) at h))
+tabulate-getD d l =
+    ext-getD d (tabulate (length l) (λ k. getD l k d)) l (length-tabulate _ _)
+    (λ i h. getD-tabulate _ _ d i (rw (length-tabulate (λ k. getD l k d) (length l)) at h))
 
 -- f 0, then f 1, .. , then f (n-1)
 unfoldable pub blocks : ℕ → (ℕ → List ℕ) → List ℕ
@@ -67,7 +69,9 @@ module _ (f : ℕ → List ℕ) (w : ℕ) (e : (k : ℕ) → length (f k) ≡ w)
   getD-blocks zero k r d l m = absurd (omega arith)
   getD-blocks (suc n) k r d l m =
       below-suc (λ (j : ℕ). getD (blocks n f ++ f n) (j * w + r) d ≡ getD (f j) r d) n
-      (λ j i. List·getD-append (blocks n f) (f n) d (j * w + r) (omega (arith, length-blocks n, mul-le-mul-right {m = suc j} {n = n} w i, suc-mul j w)) ∙ getD-blocks n j r d i m)
+      (λ j i.
+      let inside : j * w + r < length (blocks n f) = omega (arith, length-blocks n, mul-le-mul-right {m = suc j} {n = n} w i, suc-mul j w) in
+      List·getD-append (blocks n f) (f n) d (j * w + r) inside ∙ getD-blocks n j r d i m)
       (ap (λ (x : ℕ). getD (blocks n f ++ f n) (x + r) d) (sym (length-blocks n)) ∙ getD-append-add (blocks n f) (f n) r d)
       k
       l
@@ -77,7 +81,9 @@ pub set-tabulate : {A : Type 0} (d : A) (l : List A) (k : ℕ) (x : A) → set l
 set-tabulate {A} d l k x =
     ext-getD d (set l k x) (tabulate (length l) (λ j. cond (eqb j k) x (getD l j d)))
     (length-set l k x ∙ sym (length-tabulate _ _))
-    (λ i h. let m : i < length l = rw (length-set l k x) at h in go i m (eqb i k) refl ∙ sym (getD-tabulate (λ j. cond (eqb j k) x (getD l j d)) (length l) d i m))
+    (λ i h.
+    let m : i < length l = rw (length-set l k x) at h in
+    go i m (eqb i k) refl ∙ sym (getD-tabulate (λ j. cond (eqb j k) x (getD l j d)) (length l) d i m))
   where
     go : (i : ℕ) → i < length l → (b : Bool) → eqb i k ≡ b → getD (set l k x) i d ≡ cond b x (getD l i d)
     go i m true e = let q : i ≡ k = eqb-true i k e in rw q (getD-set-same l k x d (rw q at m))
@@ -108,7 +114,8 @@ module _ (f : ℕ → List ℕ) (w : ℕ) (e : (k : ℕ) → length (f k) ≡ w)
   pub blocks-next : (l : List ℕ) (n : ℕ) → n * w + w ≤ length l → take (n * w) l ≡ blocks n f → take ((n + 1) * w) (sets l (n * w) (f n)) ≡ blocks (n + 1) f
   blocks-next l n h q =
       let d : List ℕ = drop (n * w + length (f n)) l in
-      let m : length (blocks n f ++ f n) ≡ (n + 1) * w = omega (arith, length-append (blocks n f) (f n), length-blocks f w e n, e n, ap (λ (x : ℕ). x * w) (add-one n), suc-mul n w) in
+      let m : length (blocks n f ++ f n) ≡ (n + 1) * w =
+      omega (arith, length-append (blocks n f) (f n), length-blocks f w e n, e n, ap (λ (x : ℕ). x * w) (add-one n), suc-mul n w) in
       ap (take ((n + 1) * w)) (sets-eq (f n) l (n * w) (omega (arith, e n)) ∙ ap (λ (x : List ℕ). x ++ f n ++ d) q)
       ∙ take-at (blocks n f ++ f n) d ((n + 1) * w) m
       ∙ sym (blocks-more f n)
@@ -120,7 +127,8 @@ take-replicate (suc n) zero a h = absurd (omega arith)
 take-replicate {A} (suc n) (suc m) a h = ap (λ (l : List A). a ∷ l) (take-replicate n m a (omega arith))
 
 -- what stands at j after a store at k: what was stored, or what stood there
-pub set-cases : {A : Type 0} (d : A) (l : List A) (k : ℕ) (x : A) → k < length l → (j : ℕ) → ((j ≡ k) × (getD (set l k x) j d ≡ x)) ⊎ ((j ≡ k → ⊥) × (getD (set l k x) j d ≡ getD l j d))
+pub set-cases : {A : Type 0} (d : A) (l : List A) (k : ℕ) (x : A) → k < length l → (j : ℕ)
+    → ((j ≡ k) × (getD (set l k x) j d ≡ x)) ⊎ ((j ≡ k → ⊥) × (getD (set l k x) j d ≡ getD l j d))
 set-cases d l k x h j =
     ⊎-elim
     (λ b. let e : j ≡ k = eqb-true j k b in inl (e, rw e (getD-set-same l k x d h)))

@@ -20,7 +20,8 @@ unfolding part
 part-join piece i j k h l =
     ap (λ (n : ℕ). take n (drop i piece)) {x = k - i} {y = (j - i) + (k - j)} (omega arith)
     ∙ take-add (j - i) (k - j) (drop i piece)
-    ∙ ap (λ (m : List ℕ). take (j - i) (drop i piece) ++ take (k - j) m) (drop-drop (j - i) i piece ∙ ap (λ (n : ℕ). drop n piece) {x = i + (j - i)} {y = j} (omega arith))
+    ∙ ap (λ (m : List ℕ). take (j - i) (drop i piece) ++ take (k - j) m)
+    (drop-drop (j - i) i piece ∙ ap (λ (n : ℕ). drop n piece) {x = i + (j - i)} {y = j} (omega arith))
 
 pub part-one : (piece : List ℕ) (i : ℕ) → i < length piece → part piece i (i + 1) ≡ getD piece i 0 ∷ []
 unfolding part

@@ -37,4 +37,6 @@ below-suc P n h x k l = ⊎-elim (λ (e : k ≡ n). rw e x) (λ m. h k m) (eq-or
 -- what each of d steps from k on keeps
 pub walk-on : (P : ℕ → Type 0) (k d : ℕ) → ((j : ℕ) → k ≤ j → j < k + d → P j → P (j + 1)) → P k → P (k + d)
 walk-on P k zero s h = rw add-zero h
-walk-on P k (suc d) s h = let e : k + suc d ≡ k + d + 1 = omega arith in rw e (s (k + d) (omega arith) (omega arith) (walk-on P k d (λ j l m. s j l (omega arith)) h))
+walk-on P k (suc d) s h =
+    let e : k + suc d ≡ k + d + 1 = omega arith in
+    rw e (s (k + d) (omega arith) (omega arith) (walk-on P k d (λ j l m. s j l (omega arith)) h))
