@@ -28,9 +28,6 @@ module _ {c d : Cell} (e : c ≡ d) where
   pub input≡ : c .input .0 ≡ d .input .0
   input≡ = ap (λ (x : Cell). x .input .0) e
 
-  pub output≡ : c .output .0 ≡ d .output .0
-  output≡ = ap (λ (x : Cell). x .output .0) e
-
   pub entered≡ : c .entered .0 ≡ d .entered .0
   entered≡ = ap (λ (x : Cell). x .entered .0) e
 
