@@ -13,7 +13,7 @@ use Rattle.laws.specs.Tests.{No, both, join, passes, refuted}
 use Rattle.laws.specs.Count.{count, count-either, count-none, count-one, count-mono, count-more, find}
 use Rattle.rules.specs.declared.Cell.{Cell}
 use Rattle.rules.specs.Cells.{outputOf, placed, isReadyFor}
-use Rattle.ideal.specs.Cells.{readyFor→, →readyFor}
+use Rattle.ideal.specs.Cells.{place≡, readyFor→, →readyFor}
 use Rattle.demands.specs.Ages.{rank}
 use Rattle.demands.specs.Policy.{Weighs}
 use Rattle.demands.specs.Ahead.{readyIn, isAhead, ahead→, →ahead, isYounger, younger→, Slack}
@@ -31,7 +31,7 @@ pub record Phase (n : ℕ) (key : Cell → ℕ) (r : ℕ → ℕ) (m : ℕ → B
 module _ {n : ℕ} {key : Cell → ℕ} {v : ℕ} {r : ℕ → ℕ} {m : ℕ → Bool} {t u : ℕ → Cell} {a b : ℕ}
     (law : Weighs key v) (p : Phase n key r m t u) (inv : Slack n key v r t a b) where
   unmoved : (k : ℕ) → k < n → (u k) .place ≡ 1 → No (m k)
-  unmoved k i w = ⊎-elim (λ x. absurd (omega (arith, ap (λ (c : Cell). c .place) (p .moved k i x)))) (λ x. x) (passes (m k))
+  unmoved k i w = ⊎-elim (λ x. absurd (omega (arith, place≡ (p .moved k i x)))) (λ x. x) (passes (m k))
 
   -- the cells that are left
   stay : (y : Cell) (k : ℕ) → k < n → So (isAhead r y (u k)) → So (isAhead r y (t k))

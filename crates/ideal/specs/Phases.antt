@@ -18,7 +18,7 @@ use Rattle.rules.specs.declared.Cell.{Cell}
 use Rattle.rules.specs.Cells.{free, nth, placed, isWaiting, isLive}
 use Rattle.rules.specs.Answers.{live}
 use Rattle.rules.specs.Phases.{matchOf, moved, phase, phases}
-use Rattle.ideal.specs.Cells.{waiting→, →waiting, →live, placed-same}
+use Rattle.ideal.specs.Cells.{place≡, waiting→, →waiting, →live, placed-same}
 use Rattle.ideal.specs.Fit.{Sound, Fit, Stays, stays-refl, fit-part}
 use Rattle.ideal.specs.Match.{match-waits}
 
@@ -53,7 +53,7 @@ readied-refl cs = record { long = refl; each = λ k l. inl refl }
 module _ {cs us : List Cell} (h : Readied cs us) where
   -- what still waits is as it was
   pub readied-waits : (k : ℕ) → k < length cs → nth us k .place ≡ 1 → nth us k ≡ nth cs k
-  readied-waits k l w = ⊎-elim (λ e. e) (λ e. absurd (omega (arith, ap (λ (c : Cell). c .place) (e .1)))) (h .each k l)
+  readied-waits k l w = ⊎-elim (λ e. e) (λ e. absurd (omega (arith, place≡ (e .1)))) (h .each k l)
 
   pub readied-trans : {vs : List Cell} → Readied us vs → Readied cs vs
   readied-trans {vs} g = record { long = g .long ∙ h .long; each = λ k l. ⊎-elim (same k l) (later k l) (g .each k (omega (arith, h .long))) }
