@@ -48,8 +48,8 @@ module _ {o : Output} {ws l m : List ℕ} where
   pub emits-nothing : oldestReady (cellsOf ws) o ≡ Nothing → m ≡ sets l (o .0 * exhaledWidth) (entry 0 free) → Emitted o ws l ws m
   emits-nothing f e = record { table = rw f (sym (with-own ws)); list = rw f e }
 
-  pub emits-record : {k : ℕ} {vs : List ℕ} → oldestReady (cellsOf ws) o ≡ At k → m ≡ sets l (o .0 * exhaledWidth) (entry 1 (nth (cellsOf ws) k)) → vs ≡ stored ws k free
-      → Emitted o ws l vs m
+  pub emits-record : {k : ℕ} {vs : List ℕ} → oldestReady (cellsOf ws) o ≡ At k → m ≡ sets l (o .0 * exhaledWidth) (entry 1 (nth (cellsOf ws) k))
+      → vs ≡ stored ws k free → Emitted o ws l vs m
   emits-record f e s = record { table = rw f s; list = rw f e }
 
 -- Output by output -----------------------------------------------------------------------------
@@ -67,7 +67,10 @@ module _ (cs : List Cell) (o : ℕ) where
   -- what was emitted is not ready, and was for a lower output
   same-ready : (k : ℕ) → k < length cs → isReadyFor (outputOf o) (nth (exhale o cs) k) ≡ isReadyFor (outputOf o) (nth cs k)
   unfolding isReadyFor isReady
-  same-ready k l = same-test _ _ (λ h. go (isEmitted o cs k) (ap (isReadyFor (outputOf o)) (sym (nth-exhale o cs k l)) ∙ h)) (λ h. ap (isReadyFor (outputOf o)) (kept k l h) ∙ h)
+  same-ready k l =
+      same-test _ _
+      (λ h. go (isEmitted o cs k) (ap (isReadyFor (outputOf o)) (sym (nth-exhale o cs k l)) ∙ h))
+      (λ h. ap (isReadyFor (outputOf o)) (kept k l h) ∙ h)
     where
       go : (b : Bool) → So (isReadyFor (outputOf o) (cond b free (nth cs k))) → So (isReadyFor (outputOf o) (nth cs k))
       go true h = absurd (false≢true h)
@@ -148,17 +151,20 @@ exhaling-none ws l = record { table = sym (ap (withRecords ws) (exhale-zero (cel
 pub exhaling-long : {ws vs l : List ℕ} {o : ℕ} → Exhaling ws o vs l → length vs ≡ length ws
 exhaling-long {ws} {o = o} x = with-long ws _ (x .table) (length-exhale o (cellsOf ws))
 
-pub exhaling-more : {ws : List ℕ} {o : ℕ} {vs l us m : List ℕ} → o * exhaledWidth + exhaledWidth ≤ length l → Exhaling ws o vs l → Emitted (outputOf o) vs l us m
-    → Exhaling ws (o + 1) us m
+pub exhaling-more : {ws : List ℕ} {o : ℕ} {vs l us m : List ℕ} → o * exhaledWidth + exhaledWidth ≤ length l → Exhaling ws o vs l
+    → Emitted (outputOf o) vs l us m → Exhaling ws (o + 1) us m
 unfolding exhaled
 exhaling-more {ws} {o} {vs} {l} {us} {m} h x e =
     record {
       table = with-then ws _ (x .table) long _ then (length-storeAt (found cs o) free (exhale o cs)) ∙ ap (withRecords ws) (sym (exhale-more cs o));
-      list = ap (take ((o + 1) * exhaledWidth)) shown ∙ blocks-next (λ o. emittedWords cs (found cs o)) exhaledWidth (λ o. length-emitted cs (found cs o)) l o h (x .list);
+      list = ap (take ((o + 1) * exhaledWidth)) shown ∙ blocks-next words exhaledWidth (λ o. length-emitted cs (found cs o)) l o h (x .list);
     }
   where
     cs : List Cell
     cs = cellsOf ws
+
+    words : ℕ → List ℕ
+    words o = emittedWords cs (found cs o)
 
     long : length (exhale o cs) ≡ length cs
     long = length-exhale o cs

@@ -1,11 +1,11 @@
 -- One arrival, and where the next one may look for room.
 -- Assumes nothing.
-use Prim.Native.Nat.{ℕ, _+_, _-_, _<_}
+use Prim.Native.Nat.{ℕ, _+_, _<_}
 use mathlib.Core.Path.{_≡_, refl, sym, ap, _∙_}
 use mathlib.Core.Logic.{⊎-elim}
 use mathlib.Core.List.{List}
 use native.Mathlib.Omega.{arith}
-use native.Mathlib.Numerals.{add-one, sub-one}
+use native.Mathlib.Numerals.{add-one}
 use lib.Dec.{ltb}
 use lib.ListN.{length, set}
 use lib.Seq.{getD-set-same, getD-set-other}
@@ -17,8 +17,8 @@ use Rattle.laws.specs.declared.Found.the-variants.{At, Nothing}
 use Rattle.rules.specs.declared.Cell.{Cell}
 use Rattle.rules.specs.declared.Input.{Input}
 use Rattle.rules.specs.declared.Slot.{Slot}
-use Rattle.rules.specs.Cells.{inputOf, outputOf, cell, free, nth, isFree, records, cellsOf}
-use Rattle.rules.specs.Answers.{firstWord, tagWord, arrives}
+use Rattle.rules.specs.Cells.{inputOf, free, nth, isFree, records, cellsOf}
+use Rattle.rules.specs.Answers.{firstWord, arrives}
 use Rattle.rules.specs.Phases.{lowestFree, arrival, enter, inhale}
 use Rattle.words.specs.Words.{length-cellsOf, withRecords, with-own, with-long, with-cells, with-then}
 use Rattle.table.specs.Table.{stored, records-stored, cellsOf-stored, NoneBelow, none-below-zero}
@@ -71,18 +71,15 @@ module _ (t : Slot) (arrivals : List ℕ) (i : Input) (ws : List ℕ) where
     here : No (isFree (nth taken k))
     here = rw (getD-set-same (cellsOf ws) k c free (lowest-at ws k f .0)) waits
 
-    pub takes-room : (vs : List ℕ) → (firstWord arrivals (i .0) ≡ 0 → ⊥) → vs ≡ stored ws k (cell 1 i (outputOf (firstWord arrivals (i .0) - 1)) t (tagWord arrivals (i .0)))
-        → Entered t arrivals i ws vs (k + 1)
+    pub takes-room : (vs : List ℕ) → (firstWord arrivals (i .0) ≡ 0 → ⊥) → vs ≡ stored ws k c → Entered t arrivals i ws vs (k + 1)
     unfolding enter arrives
-    takes-room vs e laid =
-        let s : vs ≡ stored ws k c = rw (sub-one (firstWord arrivals (i .0))) at laid in
-        record {
-          words = rw (ne-eqb _ _ e, f) s;
-          below = record {
-            inside = omega (arith, room-inside ws k f, ap records s, records-stored ws k c);
-            none = rw (ap cellsOf s ∙ cellsOf-stored ws k c, add-one k) (below-suc (λ j. No (isFree (nth taken j))) k others here);
-          };
-        }
+    takes-room vs e s = record {
+      words = rw (ne-eqb _ _ e, f) s;
+      below = record {
+        inside = omega (arith, room-inside ws k f, ap records s, records-stored ws k c);
+        none = rw (ap cellsOf s ∙ cellsOf-stored ws k c, add-one k) (below-suc (λ j. No (isFree (nth taken j))) k others here);
+      };
+    }
 
 -- By rising input ------------------------------------------------------------------------------------
 
@@ -113,5 +110,8 @@ unfolding inhale
 inhaling-more {t} {arrivals} {ws} {vs} {us} {i} x e =
     let cs : List Cell = inhale i t arrivals (cellsOf ws) in
     let l : length cs ≡ length (cellsOf ws) = length-inhale t arrivals i (cellsOf ws) in
-    let w : us ≡ withRecords vs (enter t arrivals i cs) = e .words ∙ ap (λ (us : List Cell). withRecords vs (enter t arrivals i us)) (with-cells ws cs (x .words) l) in
-    record { words = with-then ws cs (x .words) l (enter t arrivals i cs) w (length-enter t arrivals i cs) ∙ ap (withRecords ws) (sym (over-more _ _ i)); below = e .below }
+    let w : us ≡ withRecords vs (enter t arrivals i cs) = rw (with-cells ws cs (x .words) l) at (e .words) in
+    record {
+      words = with-then ws cs (x .words) l (enter t arrivals i cs) w (length-enter t arrivals i cs) ∙ ap (withRecords ws) (sym (over-more _ _ i));
+      below = e .below;
+    }

@@ -11,7 +11,7 @@ ghost use lib.Seq.{sets};
 ghost use Rattle.rules.specs.Cells.{cellsOf};
 ghost use Rattle.rules.specs.Answers.{arrivalWidth, exhaledWidth};
 ghost use Rattle.rules.specs.Phases.{inhale, exhale, exhaled};
-ghost use Rattle.words.specs.Words.{withRecords};
+ghost use Rattle.words.specs.Words.{changed};
 ghost use Rattle.table.specs.Table.{NoneBelow};
 ghost use Rattle.buffers.specs.Inhale.{Entered};
 ghost use Rattle.buffers.specs.Exhale.{entry, Emitted};
@@ -45,7 +45,7 @@ fn enter(table: &mut [u32], arrivals: &[u32], i: Input, t: Slot, from: usize) ->
 // By rising input each arriving cell takes the lowest-numbered free record. The table is passed once.
 pub fn inhale(table: &mut [u32], arrivals: &[u32], ports: u32, t: Slot)
     requires { ⌜ ports * arrivalWidth ≤ length (now arrivals) ⌝ }
-    ensures { λ _. ⌜ now (table .exit) ≡ withRecords (now (table .entry)) (inhale ports t (now (arrivals .entry)) (cellsOf (now (table .entry)))) ⌝ }
+    ensures { λ _. ⌜ now (table .exit) ≡ changed (inhale ports t (now (arrivals .entry))) (now (table .entry)) ⌝ }
 {
     let mut from = 0;
     let mut i = 0;
@@ -83,7 +83,7 @@ fn emit(table: &mut [u32], list: &mut [u32], o: Output)
 // Each output emits, by rising output; what one emits changes nothing for another.
 pub fn exhale(table: &mut [u32], list: &mut [u32], ports: u32)
     requires { ⌜ length (now list) ≡ ports * exhaledWidth ⌝ }
-    ensures { λ _. ⌜ now (table .exit) ≡ withRecords (now (table .entry)) (exhale ports (cellsOf (now (table .entry)))) ⌝ }
+    ensures { λ _. ⌜ now (table .exit) ≡ changed (exhale ports) (now (table .entry)) ⌝ }
     ensures { λ _. ⌜ now (list .exit) ≡ exhaled ports (cellsOf (now (table .entry))) ⌝ }
 {
     let mut o = 0;

@@ -79,7 +79,8 @@ module _ {out : ℕ → Type 0} {ws : List ℕ} {m n : ℕ} (d : Sifted out ws m
     few = omega (arith, d .few);
     reach = omega arith;
     rising = below-suc (λ (j : ℕ). (past ws j ≤ getD ws j 0) × (getD ws j 0 < suc n)) m
-        (λ j i. let r = d .rising j i in (r .0, omega (arith, r .1))) (omega (arith, d .reach), omega arith);
+        (λ j i. let r = d .rising j i in (r .0, omega (arith, r .1)))
+        (omega (arith, d .reach), omega arith);
     gaps = below-suc (λ (j : ℕ). (x : ℕ) → past ws j ≤ x → x < getD ws j 0 → out x) m (d .gaps) (λ x a c. d .rest x a (omega arith));
     rest = λ x a c. absurd (omega arith);
   }
@@ -170,29 +171,32 @@ module _ (p : ℕ → Bool) where
   -- numbers that are not looked at
   pub chosen-skip : {n m : ℕ} {ws : List ℕ} (k : ℕ) → Chosen p n ws m → n ≤ k → ((x : ℕ) → n ≤ x → x < k → No (p x)) → Chosen p k ws m
   chosen-skip {n} k c l h =
+      let same : ℕ → Type 0 = λ x. chosen p x ≡ chosen p n in
       let q : n + (k - n) ≡ k = omega arith in
-      let e : chosen p k ≡ chosen p n =
-      rw q at (walk-on (λ (x : ℕ). chosen p x ≡ chosen p n) n (k - n) (λ x a b i. chosen-no x (h x a (omega arith)) ∙ i) refl) in
+      let e : same k = rw q at (walk-on same n (k - n) (λ x a b i. chosen-no x (h x a (omega arith)) ∙ i) refl) in
       record { many = c .many ∙ ap length (sym e); front = c .front ∙ sym e }
 
   -- they are sifted: one that is left out fails the test
-  rises : (n : ℕ) → Sifted (λ x. No (p x)) (chosen p n) (length (chosen p n)) n
+  abbrev Rising : ℕ → Type 0
+  Rising n = Sifted (λ x. No (p x)) (chosen p n) (length (chosen p n)) n
+
+  rises : (n : ℕ) → Rising n
   rises zero = let c = chosen-none [] in rw (sym (c .many)) (sifted-none _ _)
   rises (suc n) = rw (sym (add-one n)) (⊎-elim (λ h. yes h (rises n)) (λ h. no h (rises n)) (passes (p n)))
     where
-      yes : p n ≡ true → Sifted (λ x. No (p x)) (chosen p n) (length (chosen p n)) n
-          → Sifted (λ x. No (p x)) (chosen p (n + 1)) (length (chosen p (n + 1))) (n + 1)
+      yes : p n ≡ true → Rising n → Rising (n + 1)
       yes h d =
           let l = length-append (chosen p n) (n ∷ []) in
           let e : length (chosen p n ++ (n ∷ [])) ≡ suc (length (chosen p n)) = omega arith in
           rw (chosen-yes n h, e, add-one n)
-          (sifted-next (sifted-like d (chosen p n ++ (n ∷ [])) (λ j i. List·getD-append (chosen p n) (n ∷ []) 0 j i))
+          (sifted-next
+          (sifted-like d (chosen p n ++ (n ∷ [])) (λ j i. List·getD-append (chosen p n) (n ∷ []) 0 j i))
           (getD-at (chosen p n) n [] 0 (length (chosen p n)) refl))
 
-      no : p n ≡ false → Sifted (λ x. No (p x)) (chosen p n) (length (chosen p n)) n
-          → Sifted (λ x. No (p x)) (chosen p (n + 1)) (length (chosen p (n + 1))) (n + 1)
+      no : p n ≡ false → Rising n → Rising (n + 1)
       no h d = rw (chosen-no n h) (sifted-skip d (n + 1) (omega arith) (λ x a c. let e : x ≡ n = omega arith in rw e h))
 
   pub chosen-sifted : {n m : ℕ} {ws : List ℕ} → Chosen p n ws m → Sifted (λ x. No (p x)) ws m n
   chosen-sifted {n} {m} {ws} c =
-      sifted-like (rw (sym (c .many)) at (rises n)) ws (λ j i. sym (getD-take m ws j 0 i) ∙ ap (λ (l : List ℕ). getD l j 0) (c .front))
+      sifted-like (rw (sym (c .many)) at (rises n)) ws
+      (λ j i. sym (getD-take m ws j 0 i) ∙ ap (λ (l : List ℕ). getD l j 0) (c .front))

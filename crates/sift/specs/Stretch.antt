@@ -126,7 +126,8 @@ pub past-more : (list : List ℕ) (k j : ℕ) → k + past list (j + 1) ≡ k + 
 past-more list k j = rw (add-one j) (omega arith)
 
 -- the records listed are in the stretch
-pub sifted-inside : (ws : List ℕ) (bits : ℕ) {list : List ℕ} {k end m : ℕ} → Sifted (Lacks ws k bits) list m (end - k) → k ≤ end → (j : ℕ) → j < m → k + getD list j 0 < end
+pub sifted-inside : (ws : List ℕ) (bits : ℕ) {list : List ℕ} {k end m : ℕ} → Sifted (Lacks ws k bits) list m (end - k) → k ≤ end
+    → (j : ℕ) → j < m → k + getD list j 0 < end
 sifted-inside ws bits d l j h = omega (arith, d .rising j h .1)
 
 -- A pass over the records listed of a stretch ---------------------------------------------------------

@@ -8,7 +8,7 @@ ghost use Rattle.rules.specs.Answers.{arrivalWidth, exhaledWidth, live};
 ghost use Rattle.rules.specs.Cells.{mostPorts, mostRecords, slotOf, records, cellsOf, fit};
 ghost use Rattle.rules.specs.Phases.{inhale, readings, phases, exhale, exhaled};
 ghost use Rattle.rules.specs.Phases.{matches as matchesOf};
-ghost use Rattle.words.specs.Words.{withRecords};
+ghost use Rattle.words.specs.Words.{changed};
 ghost use Rattle.matching.specs.Picking.{InPorts};
 
 #[no_mangle]
@@ -33,7 +33,7 @@ pub extern "C" fn treikwater_stage_inhale(
     next: u32,
 )
     requires { ⌜ ports * arrivalWidth ≤ length (now arrivals) ⌝ }
-    ensures { λ _. ⌜ now (table .exit) ≡ withRecords (now (table .entry)) (inhale ports (slotOf next) (now (arrivals .entry)) (cellsOf (now (table .entry)))) ⌝ }
+    ensures { λ _. ⌜ now (table .exit) ≡ changed (inhale ports (slotOf next) (now (arrivals .entry))) (now (table .entry)) ⌝ }
 {
     buffers::inhale(table, arrivals, ports, Slot(next));
 }
@@ -72,7 +72,7 @@ pub extern "C" fn treikwater_stage_phases(
 #[no_mangle]
 pub extern "C" fn treikwater_stage_exhale(table: &mut [u32], list: &mut [u32], ports: u32)
     requires { ⌜ length (now list) ≡ ports * exhaledWidth ⌝ }
-    ensures { λ _. ⌜ now (table .exit) ≡ withRecords (now (table .entry)) (exhale ports (cellsOf (now (table .entry)))) ⌝ }
+    ensures { λ _. ⌜ now (table .exit) ≡ changed (exhale ports) (now (table .entry)) ⌝ }
     ensures { λ _. ⌜ now (list .exit) ≡ exhaled ports (cellsOf (now (table .entry))) ⌝ }
 {
     buffers::exhale(table, list, ports);

@@ -56,26 +56,34 @@ module _ (ns : List ℕ) (e : length ns ≡ mostPorts) (c : Cell) where
   there true n = omega arith
   there false n = omega arith
 
-  one-more : set ns (c .output .0) (getD ns (c .output .0) 0 + bit (isReady c)) ≡ bumped ns c
+  -- its output's number, and the count kept there
+  abbrev out : ℕ
+  out = c .output .0
+
+  one-more : set ns out (getD ns out 0 + bit (isReady c)) ≡ bumped ns c
   unfolding bumped isReadyFor sameOutput
-  one-more = rw e at (set-tabulate 0 ns (c .output .0) (getD ns (c .output .0) 0 + bit (isReady c))) ∙ tabulate-same 0 _ _ mostPorts (λ o l. go o (eqb o (c .output .0)) refl)
+  one-more = rw e at (set-tabulate 0 ns out (getD ns out 0 + bit (isReady c))) ∙ tabulate-same 0 _ _ mostPorts (λ o l. go o (eqb o out) refl)
     where
-      go : (o : ℕ) (b : Bool) → eqb o (c .output .0) ≡ b → cond b (getD ns (c .output .0) 0 + bit (isReady c)) (getD ns o 0) ≡ bit (isReady c && eqb (c .output .0) o) + getD ns o 0
-      go o true q = let h : o ≡ c .output .0 = eqb-true _ _ q in rw (eq-eqb (c .output .0) o (sym h)) (here (isReady c) _ _ (ap (λ (x : ℕ). getD ns x 0) (sym h)))
-      go o false q = rw (ne-eqb (c .output .0) o (λ h. eqb-false _ _ q (sym h))) (there (isReady c) (getD ns o 0))
+      go : (o : ℕ) (b : Bool) → eqb o out ≡ b → cond b (getD ns out 0 + bit (isReady c)) (getD ns o 0) ≡ bit (isReady c && eqb out o) + getD ns o 0
+      go o true q = let h : o ≡ out = eqb-true _ _ q in rw (eq-eqb out o (sym h)) (here (isReady c) _ _ (ap (λ (x : ℕ). getD ns x 0) (sym h)))
+      go o false q = rw (ne-eqb out o (λ h. eqb-false _ _ q (sym h))) (there (isReady c) (getD ns o 0))
 
   -- the code's count, at a number that is an output's in any case
-  pub bump-one : set ns (c .output .0 % mostPorts) (getD ns (c .output .0 % mostPorts) 0 + bit (isCounted c)) ≡ bumped ns c
-  unfolding isCounted
-  bump-one = ⊎-elim (λ x. small (ltb-true _ _ x) x) (λ x. large (ltb-false _ _ x) x) (passes (ltb (c .output .0) mostPorts))
-    where
-      small : c .output .0 < mostPorts → ltb (c .output .0) mostPorts ≡ true → set ns (c .output .0 % mostPorts) (getD ns (c .output .0 % mostPorts) 0 + bit (isReady c && ltb (c .output .0) mostPorts)) ≡ bumped ns c
-      small l x = let q : c .output .0 % mostPorts ≡ c .output .0 = omega arith in rw (q, x, and-true (isReady c)) one-more
+  abbrev at : ℕ
+  at = out % mostPorts
 
-      large : mostPorts ≤ c .output .0 → ltb (c .output .0) mostPorts ≡ false → set ns (c .output .0 % mostPorts) (getD ns (c .output .0 % mostPorts) 0 + bit (isReady c && ltb (c .output .0) mostPorts)) ≡ bumped ns c
+  pub bump-one : set ns at (getD ns at 0 + bit (isCounted c)) ≡ bumped ns c
+  unfolding isCounted
+  bump-one = ⊎-elim (λ x. small (ltb-true _ _ x) x) (λ x. large (ltb-false _ _ x) x) (passes (ltb out mostPorts))
+    where
+      small : out < mostPorts → ltb out mostPorts ≡ true → set ns at (getD ns at 0 + bit (isReady c && ltb out mostPorts)) ≡ bumped ns c
+      small l x = let q : at ≡ out = omega arith in rw (q, x, and-true (isReady c)) one-more
+
+      large : mostPorts ≤ out → ltb out mostPorts ≡ false → set ns at (getD ns at 0 + bit (isReady c && ltb out mostPorts)) ≡ bumped ns c
       large l x =
-          let z : getD ns (c .output .0 % mostPorts) 0 + bit (isReady c && false) ≡ getD ns (c .output .0 % mostPorts) 0 = let d = there (isReady c) (getD ns (c .output .0 % mostPorts) 0) in omega arith in
-          rw (x, z) (set-getD ns (c .output .0 % mostPorts) 0 ∙ no-such-output l)
+          let d = there (isReady c) (getD ns at 0) in
+          let z : getD ns at 0 + bit (isReady c && false) ≡ getD ns at 0 = omega arith in
+          rw (x, z) (set-getD ns at 0 ∙ no-such-output l)
 
 -- the ready cells of output o below record k, and all outputs' counts of them
 abbrev readyBelow : List Cell → ℕ → ℕ → ℕ
@@ -149,5 +157,6 @@ oldest-skip cs o k h = sym (least-more _ _ k ∙ sooner-skip _ k (oldestBelow cs
 pub record Oldest (ws : List ℕ) (o : Output) (found : Found) (k : ℕ) : Type 0 where
   pub is : found ≡ oldestBelow (cellsOf ws) o k
 
-pub oldest-keeps : {ws : List ℕ} {o : Output} {found : Found} (x : ℕ) → x < records ws → bitAnd (nth (cellsOf ws) x .place) readyBit ≡ 0 → Oldest ws o found x → Oldest ws o found (x + 1)
+pub oldest-keeps : {ws : List ℕ} {o : Output} {found : Found} (x : ℕ) → x < records ws → bitAnd (nth (cellsOf ws) x .place) readyBit ≡ 0
+    → Oldest ws o found x → Oldest ws o found (x + 1)
 oldest-keeps {ws} {o} x l h c = record { is = c .is ∙ oldest-skip (cellsOf ws) o x (and-none _ readyBit (omega arith) h) }

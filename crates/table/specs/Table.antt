@@ -56,7 +56,10 @@ none-below-zero ws = record { inside = omega arith; none = λ k l. absurd (omega
 module _ {ws : List ℕ} {k : ℕ} (b : NoneBelow ws k) where
   pub none-below-more : {c : Cell} → k < records ws → c ≡ nth (cellsOf ws) k → (c .place ≡ 0 → ⊥) → NoneBelow ws (k + 1)
   unfolding isFree
-  none-below-more {c} l e h = record { inside = omega arith; none = rw (add-one k) (below-suc (λ j. No (isFree (nth (cellsOf ws) j))) k (b .none) (rw (← e) (ne-eqb _ _ h))) }
+  none-below-more {c} l e h = record {
+    inside = omega arith;
+    none = rw (add-one k) (below-suc (λ j. No (isFree (nth (cellsOf ws) j))) k (b .none) (rw (← e) (ne-eqb _ _ h)));
+  }
 
   pub first-free : {c : Cell} → k < records ws → c ≡ nth (cellsOf ws) k → c .place ≡ 0 → lowestFree (cellsOf ws) ≡ At k
   unfolding isFree lowestFree

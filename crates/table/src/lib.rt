@@ -184,8 +184,8 @@ fn older_of(table: &[u32], o: Output, found: Found, k: usize) -> Found
     let Found::At(j) = found else {
         return Found::At(k);
     };
-    let d = cell_at(table, j);
-    if is_older(c, d) {
+    let best = cell_at(table, j);
+    if is_older(c, best) {
         Found::At(k)
     } else {
         Found::At(j)

@@ -8,7 +8,8 @@ use mathlib.Core.List.{List, _++_}
 use native.Mathlib.Omega.{arith}
 use native.Mathlib.Nat.{add-zero}
 use lib.Dec.{eqb, ltb}
-use lib.ListN.{length, getD, set, drop, replicate, length-append, length-drop, length-set, length-replicate, getD-replicate, List·getD-append, List·getD-eq-default}
+use lib.ListN.{length, getD, set, drop, replicate, length-append, length-drop, length-set, length-replicate}
+use lib.ListN.{getD-replicate, List·getD-append, List·getD-eq-default}
 use lib.Seq.{ext-getD, drop-at, getD-append-add, getD-drop, getD-set-same, getD-set-other, sets, length-sets}
 use borrow.Author.Tests.{eqb-true, eqb-false, eq-eqb, ltb-true, ltb-false}
 use Rattle.laws.specs.Tests.{passes}
@@ -75,7 +76,9 @@ cellAt-wordsOf cs k l = cell-ext (cellAt (wordsOf cs) k) (nth cs k) (λ r m. fie
 pub cellsOf-wordsOf : (cs : List Cell) → cellsOf (wordsOf cs) ≡ cs
 cellsOf-wordsOf cs =
     ext-getD free (cellsOf (wordsOf cs)) cs (length-cellsOf (wordsOf cs) ∙ records-wordsOf cs)
-    (λ k h. let l : k < length cs = omega (arith, length-cellsOf (wordsOf cs), records-wordsOf cs) in nth-cellsOf (wordsOf cs) k (omega (arith, records-wordsOf cs)) ∙ cellAt-wordsOf cs k l)
+    (λ k h.
+    let l : k < length cs = omega (arith, length-cellsOf (wordsOf cs), records-wordsOf cs) in
+    nth-cellsOf (wordsOf cs) k (omega (arith, records-wordsOf cs)) ∙ cellAt-wordsOf cs k l)
 
 -- words as many are records as many
 pub same-records : (ws vs : List ℕ) → length ws ≡ length vs → records ws ≡ records vs
@@ -99,7 +102,8 @@ words-known ws vs w e h =
     let q : i / width * width + i % width ≡ i = omega arith in
     let m : i / width < length ws / width = omega (arith, eqb-true (length ws % width) 0 w) in
     let n : i / width < length vs / width = omega arith in
-    rw q at (word-known ws vs (i / width) (i % width) (omega arith) (sym (nth-cellsOf ws (i / width) m) ∙ ap (λ (cs : List Cell). nth cs (i / width)) h ∙ nth-cellsOf vs (i / width) n)))
+    let k : cellAt ws (i / width) ≡ cellAt vs (i / width) = sym (nth-cellsOf ws _ m) ∙ ap (λ (cs : List Cell). nth cs (i / width)) h ∙ nth-cellsOf vs _ n in
+    rw q at (word-known ws vs (i / width) (i % width) (omega arith) k))
 
 pub wordsOf-cellsOf : (ws : List ℕ) → So (isWhole ws) → wordsOf (cellsOf ws) ≡ ws
 unfolding isWhole records
@@ -121,7 +125,9 @@ module _ (ws vs : List ℕ) (k : ℕ) (h : k < records ws) (c : Cell) (e : lengt
   pub cellsOf-changed : cellsOf vs ≡ set (cellsOf ws) k c
   cellsOf-changed =
       ext-getD free (cellsOf vs) (set (cellsOf ws) k c) (length-cellsOf vs ∙ same-records vs ws e ∙ sym (length-set (cellsOf ws) k c ∙ length-cellsOf ws))
-      (λ j l. let m : j < records ws = rw (length-cellsOf vs, same-records vs ws e) at l in nth-cellsOf vs j (rw (same-records vs ws e) m) ∙ go j m (eqb j k) refl)
+      (λ j l.
+      let m : j < records ws = rw (length-cellsOf vs, same-records vs ws e) at l in
+      nth-cellsOf vs j (rw (same-records vs ws e) m) ∙ go j m (eqb j k) refl)
     where
       go : (j : ℕ) → j < records ws → (b : Bool) → eqb j k ≡ b → cellAt vs j ≡ nth (set (cellsOf ws) k c) j
       go j m true q = let p : j ≡ k = eqb-true j k q in rw p (here ∙ sym (getD-set-same (cellsOf ws) k c free (rw (length-cellsOf ws) h)))
@@ -132,6 +138,10 @@ module _ (ws vs : List ℕ) (k : ℕ) (h : k < records ws) (c : Cell) (e : lengt
 -- the words ws with the records cs; what stands behind the last whole record stays
 unfoldable pub withRecords : List ℕ → List Cell → List ℕ
 withRecords ws cs = wordsOf cs ++ drop (length cs * width) ws
+
+-- the words ws with their records as f changes them
+abbrev pub changed : (List Cell → List Cell) → List ℕ → List ℕ
+changed f ws = withRecords ws (f (cellsOf ws))
 
 module _ (ws : List ℕ) (cs : List Cell) (e : length cs ≡ records ws) where
   pub length-with : length (withRecords ws cs) ≡ length ws
@@ -156,7 +166,8 @@ module _ (ws : List ℕ) (cs : List Cell) (e : length cs ≡ records ws) where
   pub with-whole : So (isWhole ws) → withRecords ws cs ≡ wordsOf cs
   unfolding isWhole records
   with-whole w =
-      words-known (withRecords ws cs) (wordsOf cs) (eq-eqb (length (withRecords ws cs) % width) 0 (omega (arith, length-with, eqb-true (length ws % width) 0 w)))
+      words-known (withRecords ws cs) (wordsOf cs)
+      (eq-eqb (length (withRecords ws cs) % width) 0 (omega (arith, length-with, eqb-true (length ws % width) 0 w)))
       (length-with ∙ omega (arith, length-wordsOf cs, e, eqb-true (length ws % width) 0 w))
       (cellsOf-with ∙ sym (cellsOf-wordsOf cs))
 
@@ -165,7 +176,8 @@ module _ (ws : List ℕ) (cs : List Cell) (e : length cs ≡ records ws) where
   unfolding withRecords
   with-again ds q =
       ap (λ (l : List ℕ). wordsOf ds ++ l)
-      (drop-at (wordsOf cs) (drop (length cs * width) ws) (length ds * width) (omega (arith, length-wordsOf cs, q)) ∙ ap (λ (n : ℕ). drop (n * width) ws) (sym q))
+      (drop-at (wordsOf cs) (drop (length cs * width) ws) (length ds * width) (omega (arith, length-wordsOf cs, q))
+      ∙ ap (λ (n : ℕ). drop (n * width) ws) (sym q))
 
 -- words vs that are ws with the records cs, as many as ws has: how long they are, their records, and what becomes of them with others
 module _ (ws : List ℕ) {vs : List ℕ} (cs : List Cell) (e : vs ≡ withRecords ws cs) (l : length cs ≡ length (cellsOf ws)) where
@@ -195,7 +207,8 @@ with-known ws vs e h =
     inside i l =
         let q : i / width * width + i % width ≡ i = omega arith in
         let m : i / width < records vs = omega (arith, same-records vs ws e) in
-        rw q at (word-known vs (wordsOf (cellsOf vs)) (i / width) (i % width) (omega arith) (sym (nth-cellsOf vs (i / width) m) ∙ sym (cellAt-wordsOf (cellsOf vs) (i / width) (rw (length-cellsOf vs) m))))
+        let k = sym (cellAt-wordsOf (cellsOf vs) (i / width) (rw (length-cellsOf vs) m) ∙ nth-cellsOf vs (i / width) m) in
+        rw q at (word-known vs (wordsOf (cellsOf vs)) (i / width) (i % width) (omega arith) k)
         ∙ sym (List·getD-append (wordsOf (cellsOf vs)) _ 0 i (rw long l))
 
     behind : (i : ℕ) → records ws * width ≤ i → getD vs i 0 ≡ getD (withRecords ws (cellsOf vs)) i 0
@@ -255,10 +268,18 @@ module _ (ws : List ℕ) (k : ℕ) (h : k < records ws) where
 
 -- a table of zeros is one of free records
 pub cellsOf-zeros : (n k : ℕ) → nth (cellsOf (replicate n 0)) k ≡ free
-cellsOf-zeros n k = ⊎-elim (λ l. nth-cellsOf (replicate n 0) k (ltb-true k _ l) ∙ zero-cell) (λ l. List·getD-eq-default (cellsOf (replicate n 0)) free {n = k} (rw (length-cellsOf (replicate n 0)) (ltb-false k _ l))) (passes (ltb k (records (replicate n 0))))
+cellsOf-zeros n k =
+    ⊎-elim
+    (λ l. nth-cellsOf (replicate n 0) k (ltb-true k _ l) ∙ zero-cell)
+    (λ l. List·getD-eq-default (cellsOf (replicate n 0)) free {n = k} (rw (length-cellsOf (replicate n 0)) (ltb-false k _ l)))
+    (passes (ltb k (records (replicate n 0))))
   where
     zero-word : (i : ℕ) → _≡_ {A = ℕ} (getD (replicate n 0) i 0) 0
-    zero-word i = ⊎-elim (λ l. getD-replicate n i 0 0 (ltb-true i n l)) (λ l. List·getD-eq-default (replicate n 0) 0 {n = i} (rw (length-replicate {A = ℕ} n 0) (ltb-false i n l))) (passes (ltb i n))
+    zero-word i =
+        ⊎-elim
+        (λ l. getD-replicate n i 0 0 (ltb-true i n l))
+        (λ l. List·getD-eq-default (replicate n 0) 0 {n = i} (rw (length-replicate {A = ℕ} n 0) (ltb-false i n l)))
+        (passes (ltb i n))
 
     zero-cell : cellAt (replicate n 0) k ≡ free
     zero-cell = cell-ext (cellAt (replicate n 0) k) free (λ r l. field-at (replicate n 0) k r l ∙ zero-word (k * width + r) ∙ sym (free-field r l))

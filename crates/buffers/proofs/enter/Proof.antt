@@ -2,6 +2,7 @@
 use Prim.Native.Nat.{_<_}
 use mathlib.Core.Path.{_≡_, sym, _∙_}
 use native.Mathlib.Omega.{arith}
+use native.Mathlib.Numerals.{sub-one}
 use denote.Ref.{now}
 use Rattle.laws.specs.declared.Found.the-variants.{At}
 use Rattle.rules.specs.Cells.{records, cellsOf}
@@ -89,7 +90,9 @@ same-length-2 c = search needs
 
 returns-3 : tie.Need-returns-3
 unfolding firstWord tagWord
-returns-3 c = let p = c .before .before in takes-room _ _ _ _ _ (room (put p)) _ (arrives (looked (put p)) .if1 .left) (p .put-cell .ensures)
+returns-3 c =
+    let p = c .before .before in
+    takes-room _ _ _ _ _ (room (put p)) _ (arrives (looked (put p)) .if1 .left) (rw sub-one at (p .put-cell .ensures))
 
 pub enter-spec : {M : Type 1} → statement M
 enter-spec =

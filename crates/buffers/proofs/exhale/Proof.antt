@@ -28,7 +28,9 @@ loop-less : tie.Need-loop-less Inv-loop μ-loop
 loop-less c = omega arith
 
 loop-again : tie.Need-loop-again Inv-loop μ-loop
-loop-again c = let e = c .before .before .before .before in (omega arith, omega arith, exhaling-more (omega arith) (e .before .before .before .before .loop .inv .2) (e .emit .ensures))
+loop-again c =
+    let e = c .before .before .before .before in
+    (omega arith, omega arith, exhaling-more (omega arith) (e .before .before .before .before .loop .inv .2) (e .emit .ensures))
 
 same-length : tie.Need-same-length Inv-loop μ-loop
 same-length c = exhaling-long (c .before .loop .inv .2)

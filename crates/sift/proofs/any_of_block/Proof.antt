@@ -51,7 +51,8 @@ loop-again c =
       omega arith,
       λ e.
           let z = or-none (i .any) _ e in
-          rw (add-one (i .j)) (below-suc (Lacks _ _ _) (i .j) (i .inv .1 (z .0)) (lacks-word (now (start .args .table)) _ _ (i .j) (omega (arith, start .pre)) (z .1))),
+          let l = lacks-word (now (start .args .table)) _ _ (i .j) (omega (arith, start .pre)) (z .1) in
+          rw (add-one (i .j)) (below-suc (Lacks _ _ _) (i .j) (i .inv .1 (z .0)) l),
     )
 
 returns : tie.Need-returns Inv-loop μ-loop

@@ -16,18 +16,22 @@ Inv-loop table k from to bits list₀ found next₀ x₀ list next x = (x ≤ to
 abbrev μ-loop : tie.MeasureT-loop
 μ-loop table k from to bits list₀ found next₀ x₀ list next x = to - x
 
+-- where the function began, as seen from a turn
+abbrev start : tie.In-loop Inv-loop μ-loop → tie.Start Inv-loop μ-loop
+start c = c .before .before .before
+
 -- the records lie within the words
-inside : (c : tie.In-loop Inv-loop μ-loop) → (c .before .before .before .args .k + c .before .before .before .args .to) * width ≤ length (now (c .before .before .before .args .table))
-inside c = in-words _ (c .before .before .before .pre .0 .2)
+inside : (c : tie.In-loop Inv-loop μ-loop) → (start c .args .k + start c .args .to) * width ≤ length (now (start c .args .table))
+inside c = in-words _ (start c .pre .0 .2)
 
 loop-holds : tie.Need-loop-holds Inv-loop μ-loop
 loop-holds c = let p = c .before .pre in (p .0 .0, p .1)
 
 cast-list : tie.Need-cast-list Inv-loop μ-loop
-cast-list c = omega (arith, c .before .before .before .pre)
+cast-list c = omega (arith, start c .pre)
 
 element-write-list : tie.Need-element-write-list Inv-loop μ-loop
-element-write-list c = let d = c .before .loop .inv .1 in omega (arith, d .long, listed-sifted d .few, c .before .before .before .pre)
+element-write-list c = let d = c .before .loop .inv .1 in omega (arith, d .long, listed-sifted d .few, start c .pre)
 
 add-one-if-any : tie.Need-add-one-if-any Inv-loop μ-loop
 add-one-if-any c = omega (arith, inside c)
@@ -55,7 +59,7 @@ loop-less c = omega arith
 
 loop-again : tie.Need-loop-again Inv-loop μ-loop
 loop-again c =
-    let p = c .before .before .before .before .before .pre in
+    let p = start (c .before .before) .pre in
     (omega arith, listed-more (c .before .before .before .loop .inv .1) (omega (arith, p)) (omega (arith, p)) (c .one-if-any .ensures .0))
 
 returns : tie.Need-returns Inv-loop μ-loop

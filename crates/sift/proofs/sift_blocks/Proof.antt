@@ -53,11 +53,12 @@ loop-less c = omega arith
 
 loop-again : tie.Need-loop-again Inv-loop μ-loop
 loop-again c =
-    let i = c .before .before .before .loop in (
+    let i = c .before .before .before .loop in
+    let out = block-lacks _ _ _ (i .b) _ (c .before .any-of-block .ensures) in (
       omega arith,
       length-set (i .blocks) (i .found) (i .b) ∙ i .inv .1,
       rw (c .one-if-any .ensures .0)
-          (sifted-more (i .inv .2) _ (omega (arith, i .inv .2 .few, start (c .before .before) .pre)) (block-lacks _ _ _ (i .b) _ (c .before .any-of-block .ensures))),
+          (sifted-more (i .inv .2) _ (omega (arith, i .inv .2 .few, start (c .before .before) .pre)) out),
     )
 
 returns : tie.Need-returns Inv-loop μ-loop

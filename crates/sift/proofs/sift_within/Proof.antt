@@ -1,6 +1,7 @@
 -- What is listed is listed of the records up to the block that was looked into last; those of the blocks between lack the bits.
-use Prim.Native.Nat.{_+_, _*_, _≤_, _<_, _-_, _/_}
+use Prim.Native.Nat.{ℕ, _+_, _*_, _≤_, _<_, _-_, _/_}
 use mathlib.Core.Path.{_≡_}
+use mathlib.Core.List.{List}
 use native.Mathlib.Omega.{arith}
 use native.Mathlib.Numerals.{add-one}
 use lib.ListN.{getD}
@@ -21,7 +22,11 @@ abbrev start : tie.At-loop Inv-loop μ-loop → tie.Start Inv-loop μ-loop
 start c = c .before .before .before
 
 -- block j of the list is one of the stretch, behind those below
-in-stretch : (c : tie.In-loop Inv-loop μ-loop) → (past (now (start (c .before) .args .blocks)) (c .before .loop .j) ≤ getD (now (start (c .before) .args .blocks)) (c .before .loop .j) 0) × (getD (now (start (c .before) .args .blocks)) (c .before .loop .j) 0 < start (c .before) .args .size / block)
+abbrev blocks : tie.At-loop Inv-loop μ-loop → List ℕ
+blocks c = now (start c .args .blocks)
+
+in-stretch : (c : tie.In-loop Inv-loop μ-loop) → (past (blocks (c .before)) (c .before .loop .j) ≤ getD (blocks (c .before)) (c .before .loop .j) 0)
+    × (getD (blocks (c .before)) (c .before .loop .j) 0 < start (c .before) .args .size / block)
 in-stretch c = start (c .before) .pre .1 .1 .rising (c .before .loop .j) (c .loop-test .taken)
 
 loop-holds : tie.Need-loop-holds Inv-loop μ-loop

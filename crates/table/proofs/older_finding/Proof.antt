@@ -27,9 +27,12 @@ found-a c = c .before .before .before
 abbrev start : tie.After-a → tie.Start
 start c = c .before .before .before
 
+abbrev begun : tie.After-is-older → tie.Start
+begun c = start (found-a (found-b (read c)))
+
 -- record i of the table is older than record j
 abbrev order : tie.After-is-older → ℕ → ℕ → Bool
-order c = olderAt (cellsOf (now (start (found-a (found-b (read c))) .args .table)))
+order c = olderAt (cellsOf (now (begun c .args .table)))
 
 -- a is record j, and b is record k
 abbrev j : tie.After-is-older → ℕ
@@ -38,10 +41,10 @@ j c = found-a (found-b (read c)) .a .given .0 .0
 abbrev k : tie.After-is-older → ℕ
 k c = found-b (read c) .b .given .0 .0
 
-is-a : (c : tie.After-is-older) → start (found-a (found-b (read c))) .args .a ≡ At (j c)
+is-a : (c : tie.After-is-older) → begun c .args .a ≡ At (j c)
 is-a c = found-a (found-b (read c)) .a .given .1
 
-is-b : (c : tie.After-is-older) → start (found-a (found-b (read c))) .args .b ≡ At (k c)
+is-b : (c : tie.After-is-older) → begun c .args .b ≡ At (k c)
 is-b c = found-b (read c) .b .given .1
 
 -- what the two comparisons said
@@ -93,7 +96,7 @@ returns-4 c =
 abbrev compared : tie.Else2 → tie.After-is-older
 compared c = c .before .before .before
 
-tied : (c : tie.Else2) → firstFound (order (compared c)) (start (found-a (found-b (read (compared c)))) .args .a) (start (found-a (found-b (read (compared c)))) .args .b)
+tied : (c : tie.Else2) → firstFound (order (compared c)) (begun (compared c) .args .a) (begun (compared c) .args .b)
     ≡ cond (ltb (k (compared c)) (j (compared c))) (At (k (compared c))) (At (j (compared c)))
 tied c =
     let o = compared c in

@@ -29,8 +29,11 @@ here : (c : tie.After-stretch-end Inv-sifted μ-sifted Inv-stretches μ-stretche
 here c = stretch-at (c .before .stretches-test .taken) (c .before .before .before .record-count .ensures) (c .stretch-end .ensures)
 
 -- they are not more than the counts can hold
-small : (c : tie.In-sifted Inv-sifted μ-sifted Inv-stretches μ-stretches) → records (now (c .before .before .before .before .before .before .before .before .before .args .table)) ≤ mostRecords
-small c = c .before .before .before .before .before .before .before .before .before .pre
+abbrev start : tie.In-sifted Inv-sifted μ-sifted Inv-stretches μ-stretches → tie.Start Inv-sifted μ-sifted Inv-stretches μ-stretches
+start c = c .before .before .before .before .before .before .before .before .before
+
+small : (c : tie.In-sifted Inv-sifted μ-sifted Inv-stretches μ-stretches) → records (now (start c .args .table)) ≤ mostRecords
+small c = start c .pre
 
 record-count-requires : tie.Need-record-count-requires Inv-sifted μ-sifted Inv-stretches μ-stretches
 record-count-requires c κs = tt
