@@ -7,15 +7,17 @@ use Prim.Native.Nat.{ℕ, zero, suc, _+_, _-_, _*_, _/_, _%_, _^_, _≤_, _<_, m
 use native.Mathlib.Nat.{div-one, mod-lt, zero-lt-suc, pow-suc, mul-div-cancel, mul-mod-left, max-zero, max-eq-right, max-le, min-le-left, le-of-suc-le-suc, not-suc-le-zero, mod-eq-of-lt, one-mul}
 use native.Mathlib.Numerals.{one-add}
 use native.Mathlib.Omega.{arith}
-use borrow.Author.Tests.{eqb-true, eqb-false}
-use lib.Dec.{eqb}
+use borrow.Author.Tests.{eqb-true, eqb-false, lt-ltb}
+use lib.Dec.{eqb, ltb}
 use lib.Arith.{digits-mod, lt-one}
 use lib.Pow.{shr-shr, pow-lt}
 use lib.Bits.{bitOr, or-step, or-shr, or-zero-r, bitAnd, and-mask, and-step, and-shr, bitXor, differ, xor-step, xor-shr}
 use lib.Count.{ones, ones-step, trailingZeros, under}
 use Rattle.laws.specs.Tests.{No, passes, refuted, to-no}
-use Rattle.laws.specs.Count.{any, any→, →any, bit, count, count-zero, count-suc, count-either, count-more, count-one}
-use Rattle.ports.specs.Ports.{digit, has, Added, Removed, Except, Lowest}
+use Rattle.laws.specs.Count.{any, any→, →any, bit, count, count-zero, count-suc}
+use Rattle.laws.specs.Least.{Least, lowest, lowest-hit, lowest-is, lowest-nothing, least-at}
+use Rattle.laws.specs.declared.Found.the-variants.{At}
+use Rattle.ports.specs.Ports.{maskPorts, digit, has, withPort, withoutPort, exceptPorts, Added, Removed, Except, Lowest, Visits}
 
 two-pos : zero < 2
 two-pos = zero-lt-suc 1
@@ -75,8 +77,8 @@ pub has-by-shift : (m p : ℕ) → eqb (bitAnd (m / 2 ^ p) 1) 1 ≡ has m p
 unfolding has digit
 has-by-shift m p = ap (λ (d : ℕ). eqb d 1) (and-mask (m / 2 ^ p) 1)
 
-pub has-above : (m q : ℕ) → m < 2 ^ 16 → 16 ≤ q → No (has m q)
-has-above m q h l = of-zero m q (digit-above 16 m q h l)
+pub has-above : (m q : ℕ) → m < 2 ^ maskPorts → maskPorts ≤ q → No (has m q)
+has-above m q h l = of-zero m q (digit-above maskPorts m q h l)
 
 -- A port added ---------------------------------------------------------------------------------
 
@@ -115,11 +117,17 @@ add-other (suc p) (suc q) m h =
     digit-suc (bitOr m (2 ^ suc p)) q ∙ ap (λ (x : ℕ). digit x q) (add-half m p) ∙ add-other p q (m / 2) (λ e. h (ap suc e))
     ∙ sym (digit-suc m q)
 
-shift-is : (p : ℕ) → p < 16 → 1 * 2 ^ p % 2 ^ 16 ≡ 2 ^ p
-shift-is p h = mod-eq-of-lt (subst (λ (x : ℕ). x < 2 ^ 16) (sym (one-mul (2 ^ p))) (pow-lt h)) ∙ one-mul (2 ^ p)
+-- what the code's shift computes
+shift-is : (p : ℕ) → p < maskPorts → 1 * 2 ^ p % 2 ^ maskPorts ≡ 2 ^ p
+shift-is p h = mod-eq-of-lt (subst (λ (x : ℕ). x < 2 ^ maskPorts) (sym (one-mul (2 ^ p))) (pow-lt h)) ∙ one-mul (2 ^ p)
 
-pub added-by-shift : (m p : ℕ) → p < 16 → Added m p (bitOr m (1 * 2 ^ p % 2 ^ 16))
-added-by-shift m p h = subst (λ (x : ℕ). Added m p (bitOr m x)) (sym (shift-is p h)) (record {
+pub with-by-shift : (m p : ℕ) → p < maskPorts → bitOr m (1 * 2 ^ p % 2 ^ maskPorts) ≡ withPort m p
+unfolding withPort
+with-by-shift m p h = ap (bitOr m) (shift-is p h)
+
+pub added : {m p r : ℕ} → r ≡ withPort m p → Added m p r
+unfolding withPort
+added {m} {p} e = rw e (record {
   inside = of-one (bitOr m (2 ^ p)) p (add-same p m);
   others = λ q ne. of-digit (bitOr m (2 ^ p)) m q q (add-other p q m ne);
 })
@@ -129,6 +137,10 @@ added-by-shift m p h = subst (λ (x : ℕ). Added m p (bitOr m x)) (sym (shift-i
 pow-le : (p m : ℕ) → digit m p ≡ 1 → 2 ^ p ≤ m
 pow-le zero m e = omega (arith, digit-zero m)
 pow-le (suc p) m e = let le : 2 ^ p ≤ m / 2 = pow-le p (m / 2) (sym (digit-suc m p) ∙ e) in omega (arith, pow-suc 2 p)
+
+pow-pos : (p : ℕ) → 0 < 2 ^ p
+pow-pos zero = omega arith
+pow-pos (suc p) = omega (arith, pow-pos p, pow-suc 2 p)
 
 less-half : (m p : ℕ) → (m - 2 ^ suc p) / 2 ≡ m / 2 - 2 ^ p
 less-half m p = omega (arith, pow-suc 2 p)
@@ -151,13 +163,18 @@ less-other (suc p) (suc q) m e n =
     digit-suc (m - 2 ^ suc p) q ∙ ap (λ (x : ℕ). digit x q) (less-half m p)
     ∙ less-other p q (m / 2) (sym (digit-suc m p) ∙ e) (λ f. n (ap suc f)) ∙ sym (digit-suc m q)
 
-pub shift-le : (m p : ℕ) → p < 16 → So (has m p) → 1 * 2 ^ p % 2 ^ 16 ≤ m
+pub shift-le : (m p : ℕ) → p < maskPorts → So (has m p) → 1 * 2 ^ p % 2 ^ maskPorts ≤ m
 shift-le m p h e = subst (λ (x : ℕ). x ≤ m) (sym (shift-is p h)) (pow-le p m (to-digit m p e))
 
-pub removed-by-shift : (m p : ℕ) → p < 16 → So (has m p) → Removed m p (m - 1 * 2 ^ p % 2 ^ 16)
-removed-by-shift m p h e = subst (λ (x : ℕ). Removed m p (m - x)) (sym (shift-is p h)) (record {
-  outside = of-zero (m - 2 ^ p) p (less-same p m (to-digit m p e));
-  others = λ q n. of-digit (m - 2 ^ p) m q q (less-other p q m (to-digit m p e) n);
+pub without-by-shift : (m p : ℕ) → p < maskPorts → m - 1 * 2 ^ p % 2 ^ maskPorts ≡ withoutPort m p
+unfolding withoutPort
+without-by-shift m p h = ap (λ (x : ℕ). m - x) (shift-is p h)
+
+pub removed : {m p r : ℕ} → So (has m p) → r ≡ withoutPort m p → Removed m p r
+unfolding withoutPort
+removed {m} {p} h e = rw e (record {
+  outside = of-zero (m - 2 ^ p) p (less-same p m (to-digit m p h));
+  others = λ q n. of-digit (m - 2 ^ p) m q q (less-other p q m (to-digit m p h) n);
 })
 
 -- The ports of one set that are not in another -------------------------------------------------
@@ -183,9 +200,11 @@ except-digit a b q =
     ∙ xor-odd (a / 2 ^ q) (bitAnd (a / 2 ^ q) (b / 2 ^ q))
     ∙ ap (differ (a / 2 ^ q % 2)) (and-odd (a / 2 ^ q) (b / 2 ^ q))
 
-pub except-by-digits : (m k : ℕ) → Except m k (bitXor m (bitAnd m k))
-unfolding has
-except-by-digits m k = record { each = λ q. ap (λ (d : ℕ). eqb d 1) (except-digit m k q) ∙ go (digit m q) (digit-lt m q) (digit k q) (digit-lt k q) }
+pub excepted : {m k r : ℕ} → r ≡ exceptPorts m k → Except m k r
+unfolding has exceptPorts
+excepted {m} {k} e = rw e (record {
+  each = λ q. ap (λ (d : ℕ). eqb d 1) (except-digit m k q) ∙ go (digit m q) (digit-lt m q) (digit k q) (digit-lt k q);
+})
   where
     go : (d : ℕ) → d < 2 → (e : ℕ) → e < 2 → eqb (differ d (min d e)) 1 ≡ eqb d 1 && not (eqb e 1)
     go =
@@ -204,24 +223,6 @@ pub count-ones : (k m : ℕ) → m < 2 ^ k → ones m ≡ count (has m) k
 unfolding ones
 count-ones zero m h = ap ones (lt-one h) ∙ sym (count-zero (has m))
 count-ones (suc k) m h = ones-step m ∙ ap (λ (x : ℕ). m % 2 + x) (count-ones k (m / 2) (half-below m k h)) ∙ sym (count-low k m)
-
--- a set has one more member than it has with one taken out
-pub removed-count : (m p r n : ℕ) → p < n → So (has m p) → Removed m p r → count (has r) n + 1 ≡ count (has m) n
-removed-count m p r n l h d =
-    omega (
-      arith,
-      count-more (has r) (has m) n (λ q i x. kept q x (eqb q p) refl) p l h (λ x. refuted x (d .outside)),
-      count-either (has m) (has r) (λ q. eqb q p) n (λ q i x. split q x (eqb q p) refl),
-      count-one (λ q. eqb q p) n (λ i j a b x y. eqb-true i p x ∙ sym (eqb-true j p y)),
-    )
-  where
-    kept : (q : ℕ) → So (has r q) → (b : Bool) → eqb q p ≡ b → So (has m q)
-    kept q x true e = absurd (refuted x (ap (has r) (eqb-true q p e) ∙ d .outside))
-    kept q x false e = sym (d .others q (eqb-false q p e)) ∙ x
-
-    split : (q : ℕ) → So (has m q) → (b : Bool) → eqb q p ≡ b → So (has r q) ⊎ So (eqb q p)
-    split q x true e = inr e
-    split q x false e = inl (d .others q (eqb-false q p e) ∙ x)
 
 -- The lowest member ----------------------------------------------------------------------------
 
@@ -244,10 +245,26 @@ trailing-low (suc k) m p h = go (λ q. trailing-low k (m / 2) q (half-below m k 
     go rest (suc zero) e = (zero-lt-suc k, digit-zero m ∙ sym e, (λ q l. absurd (not-suc-le-zero l)))
     go rest (suc (suc d)) e = absurd (omega (arith, mod-lt m two-pos))
 
-pub lowest-by-trailing : (m : ℕ) → 0 < m → m < 2 ^ 16 → Lowest m (trailingZeros 16 m)
+lowest-low : {m r : ℕ} → Lowest m r → lowest (has m) maskPorts ≡ At r
+lowest-low {m} {r} l = lowest-hit (has m) r maskPorts (l .small) (lowest-nothing (has m) r (l .least)) (l .inside)
+
+pub lowest-by-trailing : (m : ℕ) → 0 < m → m < 2 ^ maskPorts → lowest (has m) maskPorts ≡ At (trailingZeros maskPorts m)
 lowest-by-trailing m p h =
-    let t : Low 16 m (trailingZeros 16 m) = trailing-low 16 m p h in
-    record { small = t .0; inside = of-one m _ (t .1); least = λ q l. of-zero m q (t .2 q l) }
+    let t : Low maskPorts m (trailingZeros maskPorts m) = trailing-low maskPorts m p h in
+    lowest-low (record { small = t .0; inside = of-one m _ (t .1); least = λ q l. of-zero m q (t .2 q l) })
+
+pub lowest-port : {m r : ℕ} → lowest (has m) maskPorts ≡ At r → Lowest m r
+lowest-port {m} {r} e =
+    let at = least-at (has m) ltb maskPorts r e in
+    let is : Least (has m) ltb maskPorts (At r) = rw e at (lowest-is (has m) maskPorts) in
+    record { small = at .0; inside = at .1; least = λ q l. to-no (λ x. refuted (lt-ltb q r l) (is .2 q (omega (arith, at .0)) x)) }
+
+-- A walk over a set takes its lowest port out, again and again; as a number the set gets less.
+pub visits : {m o rest : ℕ} → lowest (has m) maskPorts ≡ At o → rest ≡ withoutPort m o → Visits m o rest
+unfolding withoutPort
+visits {m} {o} e q =
+    let l = lowest-port e in
+    record { lowest = l; removed = removed (l .inside) q; less = omega (arith, q, pow-le o m (to-digit m o (l .inside)), pow-pos o) }
 
 -- A set is what its members say ----------------------------------------------------------------
 
@@ -268,12 +285,12 @@ digits-known (suc k) a b ha hb h =
 pub set-known : (k a b : ℕ) → a < 2 ^ k → b < 2 ^ k → ((q : ℕ) → q < k → has a q ≡ has b q) → a ≡ b
 set-known k a b ha hb h = digits-known k a b ha hb (λ q l. sym (bit-has a q) ∙ ap bit (h q l) ∙ bit-has b q)
 
-pub none-inside : (m : ℕ) → m < 2 ^ 16 → ((q : ℕ) → q < 16 → No (has m q)) → m ≡ 0
-none-inside m h f = set-known 16 m 0 h (zero-lt-suc 65535) (λ q l. f q l ∙ sym (has-none q))
+pub none-inside : (m : ℕ) → m < 2 ^ maskPorts → ((q : ℕ) → q < maskPorts → No (has m q)) → m ≡ 0
+none-inside m h f = set-known maskPorts m 0 h (zero-lt-suc 65535) (λ q l. f q l ∙ sym (has-none q))
 
 -- a set that is not empty has a member
-pub some-inside : (m : ℕ) → m < 2 ^ 16 → (m ≡ 0 → ⊥) → (q : ℕ) × So (has m q)
-some-inside m h ne = ⊎-elim (λ x. let q = any→ (has m) 16 x in (q .0, q .2)) (λ x. absurd (ne (none-inside m h (λ q l. to-no (λ y. refuted (→any (has m) 16 q l y) x))))) (passes (any (has m) 16))
+pub some-inside : (m : ℕ) → m < 2 ^ maskPorts → (m ≡ 0 → ⊥) → (q : ℕ) × So (has m q)
+some-inside m h ne = ⊎-elim (λ x. let q = any→ (has m) maskPorts x in (q .0, q .2)) (λ x. absurd (ne (none-inside m h (λ q l. to-no (λ y. refuted (→any (has m) maskPorts q l y) x))))) (passes (any (has m) maskPorts))
 
 -- what was in, stays in, or was taken out
 module _ {m p r : ℕ} (d : Removed m p r) where

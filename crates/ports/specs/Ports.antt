@@ -2,9 +2,14 @@
 -- Assumes nothing.
 use mathlib.Core.Path.{_≡_}
 use mathlib.Core.Bool.{Bool, So, not, _&&_}
-use Prim.Native.Nat.{ℕ, _/_, _%_, _^_, _<_}
+use Prim.Native.Nat.{ℕ, _-_, _/_, _%_, _^_, _<_}
 use lib.Dec.{eqb}
+use lib.Bits.{bitOr, bitAnd, bitXor}
 use Rattle.laws.specs.Tests.{No}
+
+-- how many ports a set has room for: the binary digits of a mask
+abbrev pub maskPorts : ℕ
+maskPorts = 16
 
 -- binary digit q of m
 unfoldable pub digit : ℕ → ℕ → ℕ
@@ -13,6 +18,18 @@ digit m q = m / 2 ^ q % 2
 -- port q is in the set m
 unfoldable pub has : ℕ → ℕ → Bool
 has m q = eqb (digit m q) 1
+
+-- the set m with the port p added; with a port of it taken out; without the ports of the set k
+unfoldable pub withPort : ℕ → ℕ → ℕ
+withPort m p = bitOr m (2 ^ p)
+
+unfoldable pub withoutPort : ℕ → ℕ → ℕ
+withoutPort m p = m - 2 ^ p
+
+unfoldable pub exceptPorts : ℕ → ℕ → ℕ
+exceptPorts m k = bitXor m (bitAnd m k)
+
+-- What these sets are, by their members ----------------------------------------------------------
 
 -- r is the set m with the port p added
 pub record Added (m p r : ℕ) : Type 0 where
@@ -30,6 +47,12 @@ pub record Except (m k r : ℕ) : Type 0 where
 
 -- r is the lowest port in the set m
 pub record Lowest (m r : ℕ) : Type 0 where
-  pub small : r < 16
+  pub small : r < maskPorts
   pub inside : So (has m r)
   pub least : (q : ℕ) → q < r → No (has m q)
+
+-- o is the lowest port in the set m, and rest is what a walk over the set has left once it was visited
+pub record Visits (m o rest : ℕ) : Type 0 where
+  pub lowest : Lowest m o
+  pub removed : Removed m o rest
+  pub less : rest < m

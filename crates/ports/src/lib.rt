@@ -3,13 +3,18 @@ ghost use mathlib.Core.Path.{_≡_};
 ghost use mathlib.Core.Bool.{true};
 ghost use Prim.Native.Nat.{_<_};
 ghost use Rattle.laws.specs.Count.{count};
-ghost use Rattle.ports.specs.Ports.{has, Added, Removed, Except, Lowest};
+ghost use Rattle.laws.specs.Least.{lowest as lowestOf};
+ghost use Rattle.laws.specs.declared.Found.the-variants.{At};
+ghost use Rattle.ports.specs.Ports.{maskPorts, has, withPort, withoutPort, exceptPorts};
+
+// How many ports a mask has room for: its binary digits.
+const MASK_PORTS: u32 = 16;
 
 // Whether the port is in the set. No port from 16 on is in one, and a mask cannot be shifted by so much.
 pub fn holds(mask: u16, port: u32) -> bool
     ensures { λ r. ⌜ r ≡ has mask port ⌝ }
 {
-    if 16 <= port {
+    if MASK_PORTS <= port {
         return false;
     }
     (mask >> port) & 1 == 1
@@ -17,30 +22,30 @@ pub fn holds(mask: u16, port: u32) -> bool
 
 // The set and one more port; a port that is in it already stays.
 pub fn with(mask: u16, port: u32) -> u16
-    requires { ⌜ port < 16 ⌝ }
-    ensures { λ r. ⌜ Added mask port r ⌝ }
+    requires { ⌜ port < maskPorts ⌝ }
+    ensures { λ r. ⌜ r ≡ withPort mask port ⌝ }
 {
     mask | (1u16 << port)
 }
 
 // The set with a port of it taken out.
 pub fn without(mask: u16, port: u32) -> u16
-    requires { ⌜ (port < 16) × (has mask port ≡ true) ⌝ }
-    ensures { λ r. ⌜ Removed mask port r ⌝ }
+    requires { ⌜ (port < maskPorts) × (has mask port ≡ true) ⌝ }
+    ensures { λ r. ⌜ r ≡ withoutPort mask port ⌝ }
 {
     mask - (1u16 << port)
 }
 
 // The ports of a set that are not in another one.
 pub fn except(mask: u16, other: u16) -> u16
-    ensures { λ r. ⌜ Except mask other r ⌝ }
+    ensures { λ r. ⌜ r ≡ exceptPorts mask other ⌝ }
 {
     mask ^ (mask & other)
 }
 
 // How many ports are in the set.
 pub fn size(mask: u16) -> u32
-    ensures { λ r. ⌜ r ≡ count (has mask) 16 ⌝ }
+    ensures { λ r. ⌜ r ≡ count (has mask) maskPorts ⌝ }
 {
     u16::count_ones(mask)
 }
@@ -48,7 +53,7 @@ pub fn size(mask: u16) -> u32
 // The lowest port of a set that is not empty.
 pub fn lowest(mask: u16) -> u32
     requires { ⌜ 0 < mask ⌝ }
-    ensures { λ r. ⌜ Lowest mask r ⌝ }
+    ensures { λ r. ⌜ lowestOf (has mask) maskPorts ≡ At r ⌝ }
 {
     u16::trailing_zeros(mask)
 }

@@ -1,4 +1,5 @@
 -- A free cell is not marked; a live one sets the bit of its input in the mask of its slot.
+use Rattle.ports.specs.PortLaws.{added}
 use Rattle.fit_check.specs.Marks.{free-marked, live-marked}
 use borrow.Author.Needs.{needs}
 use Rattle.fit_check.proofs.is_new.Statement.{statement}
@@ -29,7 +30,7 @@ holds-requires : tie.Need-holds-requires
 holds-requires c κs = search needs
 
 returns-2 : tie.Need-returns-2
-returns-2 c = live-marked _ _ _ _ (c .before .before .before .before .before .before .before .pre) (c .before .with .ensures) (c .holds .ensures)
+returns-2 c = live-marked _ _ _ _ (c .before .before .before .before .before .before .before .pre) (added (c .before .with .ensures)) (c .holds .ensures)
 
 pub is-new-spec : {M : Type 1} → statement M
 is-new-spec =
