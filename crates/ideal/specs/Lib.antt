@@ -2,6 +2,7 @@ pub mod Cells
 pub mod Fit
 pub mod Match
 pub mod Phases
+pub mod InPorts
 pub mod Inhale
 pub mod Exhale
 pub mod Meets

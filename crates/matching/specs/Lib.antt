@@ -1,3 +1,4 @@
+pub mod Ready
 pub mod Picking
 pub mod Rounds
 pub mod Transfer

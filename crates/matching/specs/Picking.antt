@@ -20,12 +20,14 @@ use Rattle.laws.specs.declared.Found.the-variants.{At, Nothing}
 use Rattle.ports.specs.Ports.{has, Added}
 use Rattle.ports.specs.PortLaws.{has-none}
 use Rattle.rules.specs.declared.Cell.{Cell}
-use Rattle.rules.specs.Cells.{free, placed, nth, inputOf, outputOf, isWaiting, before}
+use Rattle.rules.specs.Cells.{mostPorts, free, placed, nth, inputOf, outputOf, isWaiting, before, records, cellsOf}
 use Rattle.rules.specs.Phases.{conflict, isOpen, firstOpen, none, add, addFound, round, matchOf, isTakenInput, isTakenOutput, moved}
-use Rattle.ideal.specs.Cells.{waiting→, conflict→, by-input, by-output, conflict-self, Same, before-same}
+use Rattle.words.specs.Words.{length-cellsOf, withRecords, length-with, cellsOf-with, with-again, with-own}
+use Rattle.ideal.specs.Cells.{waiting→, conflict→, by-input, by-output, conflict-self, Same, same→, same-refl, same-placed, before-same}
 use Rattle.ideal.specs.Match.{in-add, to-add, self-add, open→, takenIn→, →takenIn, taken→, →taken}
 use Rattle.ideal.specs.Phases.{length-moved, moved-yes, moved-no}
-use Rattle.queues.specs.Queues.{InPorts as Within}
+use Rattle.table.specs.Table.{stored}
+use Rattle.queues.specs.Queues.{All, Queues}
 use Rattle.matching.specs.declared.Taken.{Taken}
 
 -- a waiting cell whose input is not in the one set and whose output is in the other
@@ -40,24 +42,28 @@ candidate ins outs c = waitsAmong ins (λ o. not (outs o)) c
 unfoldable pub firstCandidate : List ℕ → (ℕ → Bool) → (ℕ → Bool) → List Cell → Found
 firstCandidate r ins outs cs = least (λ k. candidate ins outs (nth cs k)) (λ i j. before r (nth cs i) (nth cs j)) (length cs)
 
--- every waiting cell's ports are below n
-abbrev pub InPorts : ℕ → List Cell → Type 0
-InPorts n cs = Within n cs
+-- The table us becomes vs, the taken ports q next, what is sifted ns ms: record k becomes ready, its ports are taken, its input is sifted at its
+-- output. The queues are those of the new table.
+pub record Takes (us : List ℕ) (q : Taken) (ns : List ℕ) (k : ℕ) (vs qs : List ℕ) (next : Taken) (ms : List ℕ) : Type 0 where
+  pub table : vs ≡ stored us k (placed 2 (nth (cellsOf us) k))
+  pub queues : Queues All (cellsOf vs) qs
+  pub inputs : Added (q .inputs) (nth (cellsOf us) k .input .0) (next .inputs)
+  pub outputs : Added (q .outputs) (nth (cellsOf us) k .output .0) (next .outputs)
+  pub served : ms ≡ set ns (nth (cellsOf us) k .output .0) (nth (cellsOf us) k .input .0)
 
--- us becomes vs, the taken ports q next, what is sifted ns ms: record k becomes ready, its ports are taken, its input is sifted at its output
-pub record Takes (us : List Cell) (q : Taken) (ns : List ℕ) (k : ℕ) (vs : List Cell) (next : Taken) (ms : List ℕ) : Type 0 where
-  pub cells : vs ≡ set us k (placed 2 (nth us k))
-  pub inputs : Added (q .inputs) (nth us k .input .0) (next .inputs)
-  pub outputs : Added (q .outputs) (nth us k .output .0) (next .outputs)
-  pub served : ms ≡ set ns (nth us k .output .0) (nth us k .input .0)
+-- us, q and ns show that the records of p were picked from the table ws: they are ready, their ports are taken, their inputs are sifted at their
+-- outputs
+pub record Shows (ws : List ℕ) (p : ℕ → Bool) (us : List ℕ) (q : Taken) (ns : List ℕ) : Type 0 where
+  pub table : us ≡ withRecords ws (moved p (cellsOf ws))
+  pub inputs : (i : ℕ) → has (q .inputs) i ≡ isTakenInput p (cellsOf ws) (inputOf i)
+  pub outputs : (o : ℕ) → has (q .outputs) o ≡ isTakenOutput p (cellsOf ws) (outputOf o)
+  pub long : length ns ≡ mostPorts
+  pub served : (k : ℕ) → k < length (cellsOf ws) → So (p k) → getD ns (nth (cellsOf ws) k .output .0) 0 ≡ nth (cellsOf ws) k .input .0
 
--- us, q and ns show that the records of p were picked from cs: they are ready, their ports are taken, their inputs are sifted at their outputs
-pub record Shows (cs : List Cell) (p : ℕ → Bool) (us : List Cell) (q : Taken) (ns : List ℕ) : Type 0 where
-  pub cells : us ≡ moved p cs
-  pub inputs : (i : ℕ) → has (q .inputs) i ≡ isTakenInput p cs (inputOf i)
-  pub outputs : (o : ℕ) → has (q .outputs) o ≡ isTakenOutput p cs (outputOf o)
-  pub long : length ns ≡ 16
-  pub served : (k : ℕ) → k < length cs → So (p k) → getD ns (nth cs k .output .0) 0 ≡ nth cs k .input .0
+-- the rounds of a phase show its match
+pub record Picked (n : ℕ) (r ws us qs : List ℕ) (q : Taken) (ns : List ℕ) : Type 0 where
+  pub shows : Shows ws (matchOf n r (cellsOf ws)) us q ns
+  pub queues : Queues All (cellsOf us) qs
 
 -- What the code's masks say of a record -------------------------------------------------------------
 
@@ -101,8 +107,8 @@ module _ (cs : List Cell) (p : ℕ → Bool) where
   moved-same : (k : ℕ) → k < length cs → Same (nth (moved p cs) k) (nth cs k)
   moved-same k l =
       ⊎-elim
-      (λ x. rw (moved-yes p cs k l x) (record { input = refl; output = refl; entered = refl; tag = refl }))
-      (λ x. rw (moved-no p cs k l x) (record { input = refl; output = refl; entered = refl; tag = refl }))
+      (λ x. rw (moved-yes p cs k l x) (same→ _ _ (same-placed 2 (nth cs k))))
+      (λ x. rw (moved-no p cs k l x) (same→ _ _ (same-refl (nth cs k))))
       (passes (p k))
 
 -- Rounds -------------------------------------------------------------------------------------------
@@ -140,22 +146,36 @@ candidate-same : (a b c d : ℕ → Bool) → ((i : ℕ) → a i ≡ b i) → ((
 unfolding candidate waitsAmong
 candidate-same a b c d e f x = rw (e (x .input .0), f (x .output .0))
 
-module _ {cs : List Cell} {p : ℕ → Bool} {us : List Cell} {q : Taken} {ns : List ℕ} (s : Shows cs p us q ns) where
+-- the table with the picked records ready has as many records and words
+many : (ws : List ℕ) (p : ℕ → Bool) → length (moved p (cellsOf ws)) ≡ records ws
+many ws p = length-moved p (cellsOf ws) ∙ length-cellsOf ws
+
+module _ {ws : List ℕ} {p : ℕ → Bool} {us : List ℕ} {q : Taken} {ns : List ℕ} (s : Shows ws p us q ns) where
+  abbrev cs : List Cell
+  cs = cellsOf ws
+
+  pub shown-cells : cellsOf us ≡ moved p (cellsOf ws)
+  shown-cells = ap cellsOf (s .table) ∙ cellsOf-with ws (moved p cs) (many ws p)
+
+  pub shown-long : length us ≡ length ws
+  shown-long = ap length (s .table) ∙ length-with ws (moved p cs) (many ws p)
+
   -- what the scan of the code finds is what the rules' round picks
-  pub finds : (r : List ℕ) → firstCandidate r (has (q .inputs)) (has (q .outputs)) us ≡ firstOpen r cs p
+  pub finds : (r : List ℕ) → firstCandidate r (has (q .inputs)) (has (q .outputs)) (cellsOf us) ≡ firstOpen r (cellsOf ws) p
   unfolding firstCandidate firstOpen
   finds r =
-      ap (λ (v : List Cell). firstCandidate r (has (q .inputs)) (has (q .outputs)) v) (s .cells)
-      ∙ ap (λ (n : ℕ). least (λ k. candidate (has (q .inputs)) (has (q .outputs)) (nth (moved p cs) k)) (λ i j. before r (nth (moved p cs) i) (nth (moved p cs) j)) n) (length-moved p cs)
+      ap (λ (v : List Cell). firstCandidate r (has (q .inputs)) (has (q .outputs)) v) shown-cells
+      ∙ ap (λ (n : ℕ). least (λ k. candidate (has (q .inputs)) (has (q .outputs)) (nth (moved p cs) k)) (λ i j. before r (nth (moved p cs) i) (nth (moved p cs) j)) n)
+      (length-moved p cs)
       ∙ least-same _ (isOpen cs p) _ (λ i j. before r (nth cs i) (nth cs j)) (length cs)
       (λ k l. candidate-same (has (q .inputs)) _ (has (q .outputs)) _ (s .inputs) (s .outputs) (nth (moved p cs) k) ∙ open-moved cs p k l)
       (λ i j l m. before-same r _ _ _ _ (moved-same cs p i l) (moved-same cs p j m))
 
-  pub cell-same : (k : ℕ) → k < length cs → Same (nth us k) (nth cs k)
-  cell-same k l = rw (s .cells) (moved-same cs p k l)
+  pub cell-same : (k : ℕ) → k < length (cellsOf ws) → Same (nth (cellsOf us) k) (nth (cellsOf ws) k)
+  cell-same k l = rw shown-cells (moved-same cs p k l)
 
-  pub length-shown : length us ≡ length cs
-  length-shown = ap length (s .cells) ∙ length-moved p cs
+  pub length-shown : length (cellsOf us) ≡ length (cellsOf ws)
+  length-shown = ap length shown-cells ∙ length-moved p cs
 
 -- an open record is waiting, and was so
 pub open-waits : (cs : List Cell) (p : ℕ → Bool) (k : ℕ) → So (isOpen cs p k) → nth cs k .place ≡ 1
@@ -185,52 +205,82 @@ moved-add cs p k l =
     go j m (inr x) = getD-set-other (moved p cs) k j _ free (eqb-false j k x) ∙ there j m (eqb-false j k x)
 
 -- a set of ports with one more shows the set of records with one more
-added : (m a r : ℕ) (t u : ℕ → Bool) → Added m a r → ((i : ℕ) → has m i ≡ t i) → So (u a) → ((i : ℕ) → So (t i) → So (u i)) → ((i : ℕ) → So (u i) → So (t i) ⊎ (i ≡ a))
-    → (i : ℕ) → has r i ≡ u i
-added m a r t u h e here up down i =
+added-shown : (m a r : ℕ) (t u : ℕ → Bool) → Added m a r → ((i : ℕ) → has m i ≡ t i) → So (u a)
+    → ((i : ℕ) → So (t i) → So (u i)) → ((i : ℕ) → So (u i) → So (t i) ⊎ (i ≡ a)) → (i : ℕ) → has r i ≡ u i
+added-shown m a r t u h e here up down i =
     ⊎-elim
     (λ x. let q : i ≡ a = eqb-true i a x in ap (has r) q ∙ h .inside ∙ sym here ∙ ap u (sym q))
     (λ x. h .others i (eqb-false i a x) ∙ e i ∙ same-test (t i) (u i) (up i) (λ y. ⊎-elim (λ z. z) (λ z. absurd (eqb-false i a x z)) (down i y)))
     (passes (eqb i a))
 
-module _ {cs : List Cell} {p : ℕ → Bool} {us vs : List Cell} {q next : Taken} {ns ms : List ℕ} (s : Shows cs p us q ns) (k : ℕ) (l : k < length cs) (o : So (isOpen cs p k)) (t : Takes us q ns k vs next ms) where
-  pub shows-add : nth cs k .output .0 < 16 → Shows cs (add p k) vs next ms
+module _ {ws : List ℕ} {p : ℕ → Bool} {us vs qs : List ℕ} {q next : Taken} {ns ms : List ℕ} (s : Shows ws p us q ns) (k : ℕ) (l : k < length (cellsOf ws))
+    (o : So (isOpen (cellsOf ws) p k)) (t : Takes us q ns k vs qs next ms) where
+  abbrev zs : List Cell
+  zs = cellsOf ws
+
+  same : Same (nth (cellsOf us) k) (nth zs k)
+  same = cell-same s k l
+
+  added-words : vs ≡ withRecords ws (moved (add p k) zs)
+  added-words =
+      t .table
+      ∙ ap (λ (cs : List Cell). withRecords us (set cs k (placed 2 (nth cs k)))) (shown-cells s)
+      ∙ ap (withRecords us) (moved-add zs p k l)
+      ∙ ap (λ (w : List ℕ). withRecords w (moved (add p k) zs)) (s .table)
+      ∙ with-again ws (moved p zs) (many ws p) (moved (add p k) zs) (length-moved (add p k) zs ∙ sym (length-moved p zs))
+
+  added-input : (i : ℕ) → has (next .inputs) i ≡ isTakenInput (add p k) zs (inputOf i)
+  added-input =
+      added-shown _ _ _ (λ i. isTakenInput p zs (inputOf i)) (λ i. isTakenInput (add p k) zs (inputOf i)) (rw (same .input) at (t .inputs)) (s .inputs)
+      (→takenIn zs (add p k) (nth zs k .input) k l (self-add p k) refl)
+      (λ i x. let d = takenIn→ zs p (inputOf i) x in →takenIn zs (add p k) (inputOf i) (d .0) (d .1) (to-add p k (d .0) (d .2)) (d .3))
+      (λ i x.
+      let d = takenIn→ zs (add p k) (inputOf i) x in
+      ⊎-elim
+      (λ y. inl (→takenIn zs p (inputOf i) (d .0) (d .1) y (d .3)))
+      (λ y. inr (sym (d .3) ∙ ap (λ (j : ℕ). nth zs j .input .0) y))
+      (in-add p k (d .0) (d .2)))
+
+  added-output : (i : ℕ) → has (next .outputs) i ≡ isTakenOutput (add p k) zs (outputOf i)
+  added-output =
+      added-shown _ _ _ (λ i. isTakenOutput p zs (outputOf i)) (λ i. isTakenOutput (add p k) zs (outputOf i)) (rw (same .output) at (t .outputs)) (s .outputs)
+      (→taken zs (add p k) (nth zs k .output) k l (self-add p k) refl)
+      (λ i x. let d = taken→ zs p (outputOf i) x in →taken zs (add p k) (outputOf i) (d .0) (d .1) (to-add p k (d .0) (d .2)) (d .3))
+      (λ i x.
+      let d = taken→ zs (add p k) (outputOf i) x in
+      ⊎-elim
+      (λ y. inl (→taken zs p (outputOf i) (d .0) (d .1) y (d .3)))
+      (λ y. inr (sym (d .3) ∙ ap (λ (j : ℕ). nth zs j .output .0) y))
+      (in-add p k (d .0) (d .2)))
+
+  sifted : ms ≡ set ns (nth zs k .output .0) (nth zs k .input .0)
+  sifted = t .served ∙ ap₂ (λ (a b : ℕ). set ns a b) (same .output) (same .input)
+
+  -- an output that was served before is another one
+  was : (j : ℕ) → j < length zs → So (p j) → getD (set ns (nth zs k .output .0) (nth zs k .input .0)) (nth zs j .output .0) 0 ≡ nth zs j .input .0
+  was j m x =
+      getD-set-other ns (nth zs k .output .0) (nth zs j .output .0) (nth zs k .input .0) 0 (λ e. open→ zs p k o .1 j m x (by-output (nth zs j) (nth zs k) e))
+      ∙ s .served j m x
+
+  pub shows-add : nth (cellsOf ws) k .output .0 < mostPorts → Shows ws (add p k) vs next ms
   shows-add small =
       record {
-        cells = t .cells ∙ ap (λ (w : List Cell). set w k (placed 2 (nth w k))) (s .cells) ∙ moved-add cs p k l;
-        inputs =
-            added _ _ _ (λ i. isTakenInput p cs (inputOf i)) (λ i. isTakenInput (add p k) cs (inputOf i)) (rw (same .input) at (t .inputs)) (s .inputs)
-            (→takenIn cs (add p k) (nth cs k .input) k l (self-add p k) refl)
-            (λ i x. let d = takenIn→ cs p (inputOf i) x in →takenIn cs (add p k) (inputOf i) (d .0) (d .1) (to-add p k (d .0) (d .2)) (d .3))
-            (λ i x. let d = takenIn→ cs (add p k) (inputOf i) x in ⊎-elim (λ y. inl (→takenIn cs p (inputOf i) (d .0) (d .1) y (d .3))) (λ y. inr (sym (d .3) ∙ ap (λ (j : ℕ). nth cs j .input .0) y)) (in-add p k (d .0) (d .2)));
-        outputs =
-            added _ _ _ (λ i. isTakenOutput p cs (outputOf i)) (λ i. isTakenOutput (add p k) cs (outputOf i)) (rw (same .output) at (t .outputs)) (s .outputs)
-            (→taken cs (add p k) (nth cs k .output) k l (self-add p k) refl)
-            (λ i x. let d = taken→ cs p (outputOf i) x in →taken cs (add p k) (outputOf i) (d .0) (d .1) (to-add p k (d .0) (d .2)) (d .3))
-            (λ i x. let d = taken→ cs (add p k) (outputOf i) x in ⊎-elim (λ y. inl (→taken cs p (outputOf i) (d .0) (d .1) y (d .3))) (λ y. inr (sym (d .3) ∙ ap (λ (j : ℕ). nth cs j .output .0) y)) (in-add p k (d .0) (d .2)));
+        table = added-words;
+        inputs = added-input;
+        outputs = added-output;
         long = ap length sifted ∙ length-set ns _ _ ∙ s .long;
-        served = λ j m x. ap (λ (w : List ℕ). getD w (nth cs j .output .0) 0) sifted ∙ ⊎-elim (λ y. was j m y) (λ (y : j ≡ k). rw y (getD-set-same ns (nth cs k .output .0) (nth cs k .input .0) 0 (rw (s .long) small))) (in-add p k j x);
+        served = λ j m x.
+            ap (λ (w : List ℕ). getD w (nth zs j .output .0) 0) sifted
+            ∙ ⊎-elim (λ y. was j m y) (λ (y : j ≡ k). rw y (getD-set-same ns (nth zs k .output .0) (nth zs k .input .0) 0 (rw (s .long) small))) (in-add p k j x);
       }
-    where
-      same : Same (nth us k) (nth cs k)
-      same = cell-same s k l
-
-      sifted : ms ≡ set ns (nth cs k .output .0) (nth cs k .input .0)
-      sifted = t .served ∙ ap₂ (λ (a b : ℕ). set ns a b) (same .output) (same .input)
-
-      -- an output that was served before is another one
-      was : (j : ℕ) → j < length cs → So (p j) → getD (set ns (nth cs k .output .0) (nth cs k .input .0)) (nth cs j .output .0) 0 ≡ nth cs j .input .0
-      was j m x =
-          getD-set-other ns (nth cs k .output .0) (nth cs j .output .0) (nth cs k .input .0) 0
-          (λ e. open→ cs p k o .1 j m x (by-output (nth cs j) (nth cs k) e))
-          ∙ s .served j m x
 
 -- nothing is picked yet
-pub shows-none : (cs : List Cell) (q : Taken) (ns : List ℕ) → q .inputs ≡ 0 → q .outputs ≡ 0 → length ns ≡ 16 → Shows cs none cs q ns
+pub shows-none : (ws : List ℕ) (q : Taken) (ns : List ℕ) → q .inputs ≡ 0 → q .outputs ≡ 0 → length ns ≡ mostPorts → Shows ws none ws q ns
 unfolding none
-shows-none cs q ns i o l =
+shows-none ws q ns i o l =
+    let cs = cellsOf ws in
     record {
-      cells = ext-getD free cs (moved none cs) (sym (length-moved none cs)) (λ k m. sym (moved-no none cs k m refl));
+      table = sym (with-own ws) ∙ ap (withRecords ws) (ext-getD free cs (moved none cs) (sym (length-moved none cs)) (λ k m. sym (moved-no none cs k m refl)));
       inputs = λ a. ap (λ (m : ℕ). has m a) i ∙ has-none a ∙ sym (to-no (λ x. let d = takenIn→ cs none (inputOf a) x in false≢true (d .2)));
       outputs = λ a. ap (λ (m : ℕ). has m a) o ∙ has-none a ∙ sym (to-no (λ x. let d = taken→ cs none (outputOf a) x in false≢true (d .2)));
       long = l;

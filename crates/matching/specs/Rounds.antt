@@ -1,33 +1,41 @@
 -- A round by the queues' heads: the outputs with the lowest reading among those that can be served, kept from round to round, the first cell for
 -- each, the first of these.
 -- Assumes nothing.
-use Prim.Native.Nat.{ℕ, _^_, _≤_, _<_}
+use Prim.Native.Nat.{ℕ, _+_, _^_, _≤_, _<_}
 use mathlib.Core.Path.{_≡_, refl, sym, ap, _∙_, subst}
 use mathlib.Core.Logic.{_⊎_, inl, inr, ⊎-elim}
-use mathlib.Core.Bool.{Bool, So, not, _&&_, false≢true, and-true}
+use mathlib.Core.Bool.{Bool, So, true, false, not, cond, _&&_, false≢true}
 use mathlib.Core.List.{List}
 use native.Mathlib.Omega.{arith}
-use lib.Dec.{eqb}
-use lib.ListN.{length, length-set}
+use lib.Dec.{eqb, ltb}
+use lib.ListN.{length, set, length-set}
 use lib.Seq.{getD-set-same, getD-set-other}
-use borrow.Author.Tests.{eqb-true, eqb-false, eq-eqb}
-use Rattle.laws.specs.Tests.{No, passes, refuted, to-no, both, join, denied, deny}
+use borrow.Author.Tests.{eqb-true, eqb-false, eq-eqb, ltb-true, ltb-false}
+use Rattle.laws.specs.Tests.{No, passes, refuted, to-no, both, join, denied, deny, same-test, cond-true, cond-false}
+use Rattle.laws.specs.Walk.{over-zero}
 use Rattle.laws.specs.Count.{any, any→, →any}
 use Rattle.laws.specs.Order.{lower, lower-below, lower-equal, ranks-on}
 use Rattle.laws.specs.Least.{least, Below}
-use Rattle.laws.specs.First.{Ahead, First, firstFound, first-join, first-alike, first-least, first-below, least-first}
+use Rattle.laws.specs.First.{Ahead, First, firstFound, first-alike, first-least, first-below, least-first}
+use Rattle.laws.specs.SetWalk.{also, FirstIn, first-visit, LowestOf, lowest-skip, lowest-fresh, lowest-tie, lowest-above, lowest-nobody, nobody}
 use Rattle.laws.specs.declared.Found.{Found}
 use Rattle.laws.specs.declared.Found.the-variants.{At, Nothing}
-use Rattle.ports.specs.Ports.{has, Added, Removed, Except}
-use Rattle.ports.specs.PortLaws.{has-none, none-inside, removed-part, removed-out, removed-split, added-kept, added-split}
+use Rattle.ports.specs.Ports.{maskPorts, has, withPort, Except}
+use Rattle.ports.specs.PortLaws.{has-none, has-nobody, none-inside, added, added-also, added-kept, except-in, except-out}
 use Rattle.rules.specs.declared.Cell.{Cell}
-use Rattle.rules.specs.Cells.{free, placed, nth, outputOf, isWaiting, older, before, readingFor}
+use Rattle.rules.specs.Cells.{mostPorts, free, placed, nth, outputOf, isWaiting, older, before, readingFor, cellsOf}
+use Rattle.rules.specs.Phases.{isOpen, firstOpen}
+use Rattle.words.specs.Words.{length-cellsOf, same-records}
 use Rattle.ideal.specs.Cells.{waiting→, older-ranks, before-ranks}
-use Rattle.queues.specs.Queues.{named, named-name, isFound, headWord, senders, wanted, waitsFor, waits→, →waits, headBelow, headOf, All, Queues}
-use Rattle.table.specs.Table.{olderAt}
+use Rattle.queues.specs.Layout.{named, named-name, isFound, headWord, senders, wanted}
+use Rattle.queues.specs.Queues.{waitsFor, waits→, →waits, headBelow, headOf, All, Queues}
+use Rattle.table.specs.Table.{olderAt, cellsOf-stored}
 use Rattle.queues.specs.Heads.{head-below}
 use Rattle.matching.specs.declared.Taken.{Taken}
-use Rattle.matching.specs.Picking.{waitsAmong, candidate, firstCandidate, InPorts, Takes}
+use Rattle.matching.specs.declared.Lowest.{Lowest}
+use Rattle.matching.specs.Ready.{Orderly, Takeable}
+use Rattle.matching.specs.Picking.{waitsAmong, candidate, firstCandidate, Takes, Shows, Picked, picks, picks-more, picks-all, stops, open-found, open-waits}
+use Rattle.matching.specs.Picking.{finds, cell-same, length-shown, shown-long, shows-add, shows-none}
 
 -- record i stands before record j
 abbrev beforeAt : List ℕ → List Cell → ℕ → ℕ → Bool
@@ -49,9 +57,12 @@ firstFor ins o cs = least (λ k. waitsOn ins o (nth cs k)) (olderAt cs) (length 
 unfoldable pub isServable : (ℕ → Bool) → ℕ → List Cell → Bool
 isServable ins o cs = any (λ k. waitsOn ins o (nth cs k)) (length cs)
 
--- the table's waiting cells have ports
-pub in-ports : {n : ℕ} {cs : List Cell} → n ≤ 16 → InPorts n cs → InPorts 16 cs
-in-ports l f = record { inputs = λ k i w. omega (arith, f .inputs k i w, l); outputs = λ k i w. omega (arith, f .outputs k i w, l) }
+-- the outputs with the lowest reading, once output o, whose reading is x, is among those looked at
+unfoldable pub lowered : Lowest → ℕ → ℕ → Lowest
+lowered l o x =
+    cond (eqb (l .outputs) 0) (record { outputs = withPort 0 o; reading = x })
+    (cond (ltb x (l .reading)) (record { outputs = withPort 0 o; reading = x })
+    (cond (ltb (l .reading) x) l (record { outputs = withPort (l .outputs) o; reading = l .reading })))
 
 module _ (ins outs : ℕ → Bool) (c : Cell) where
   among→ : So (waitsAmong ins outs c) → So (isWaiting c) × No (ins (c .input .0)) × So (outs (c .output .0))
@@ -99,17 +110,12 @@ module _ (cs : List Cell) (i o : ℕ) where
   head-found (At j) h w = (j, h .0, h .1)
   head-found Nothing h w = absurd (false≢true w)
 
--- found is the oldest of the cells for o whose inputs are not in the set and not left
-pub record Scanned (ins : ℕ → Bool) (o : ℕ) (cs : List Cell) (left : ℕ) (found : Found) : Type 0 where
-  pub part : (i : ℕ) → So (has left i) → No (ins i)
-  pub first : First (λ k. waitsOn ins o (nth cs k) && not (has left (nth cs k .input .0))) (olderAt cs) (length cs) found
-
 module _ {cs : List Cell} {qs : List ℕ} (q : Queues All cs qs) where
   -- what the queues say of a pair
-  pub head-read : (i o : ℕ) → i < 16 → o < 16 → named (headWord qs i o) ≡ headOf cs i o
+  pub head-read : (i o : ℕ) → i < mostPorts → o < mostPorts → named (headWord qs i o) ≡ headOf cs i o
   head-read i o l m = ap named (q .heads .head i o l m tt) ∙ named-name (headOf cs i o)
 
-  pub head-below-records : (i o : ℕ) → i < 16 → o < 16 → {n : ℕ} → length cs ≡ n → (x : Found) → x ≡ named (headWord qs i o) → Below n x
+  pub head-below-records : (i o : ℕ) → i < mostPorts → o < mostPorts → {n : ℕ} → length cs ≡ n → (x : Found) → x ≡ named (headWord qs i o) → Below n x
   head-below-records i o l m e x h = rw (h, head-read i o l m, ← e) (head-below cs (length cs) i o)
 
   sends : (k : ℕ) → k < length cs → So (isWaiting (nth cs k)) → So (has (senders qs (nth cs k .output .0)) (nth cs k .input .0))
@@ -117,7 +123,7 @@ module _ {cs : List Cell} {qs : List ℕ} (q : Queues All cs qs) where
       q .heads .sends (nth cs k .input .0) (nth cs k .output .0) (q .ports .inputs k l (waiting→ _ w)) (q .ports .outputs k l (waiting→ _ w)) tt
       ∙ found-head cs _ _ (headOf cs _ _) (head-first cs _ _) k l (→waits _ _ (nth cs k) w refl refl)
 
-  sent : (i o : ℕ) → i < 16 → o < 16 → So (has (senders qs o) i) → (k : ℕ) × (k < length cs) × So (waitsFor i o (nth cs k))
+  sent : (i o : ℕ) → i < mostPorts → o < mostPorts → So (has (senders qs o) i) → (k : ℕ) × (k < length cs) × So (waitsFor i o (nth cs k))
   sent i o l m h = head-found cs i o (headOf cs i o) (head-first cs i o) (sym (q .heads .sends i o l m tt) ∙ h)
 
   -- an output that can be served is wanted
@@ -127,23 +133,23 @@ module _ {cs : List Cell} {qs : List ℕ} (q : Queues All cs qs) where
       let k = any→ (λ k. waitsOn ins o (nth cs k)) (length cs) h in
       let w = waitsOn→ ins o (nth cs (k .0)) (k .2) in
       let i : ℕ = nth cs (k .0) .input .0 in
-      q .heads .wants i o (q .ports .inputs (k .0) (k .1) (waiting→ _ (w .0))) (subst (λ (p : ℕ). p < 16) (w .2) (q .ports .outputs (k .0) (k .1) (waiting→ _ (w .0)))) tt
+      q .heads .wants i o (q .ports .inputs (k .0) (k .1) (waiting→ _ (w .0))) (subst (λ (p : ℕ). p < mostPorts) (w .2) (q .ports .outputs (k .0) (k .1) (waiting→ _ (w .0)))) tt
       (found-head cs i o (headOf cs i o) (head-first cs i o) (k .0) (k .1) (→waits i o (nth cs (k .0)) (w .0) refl (w .2)))
 
   -- Whether an output can be served ---------------------------------------------------------------------
 
-  module _ (ins o left : ℕ) (m : o < 16) (e : Except (senders qs o) ins left) where
+  module _ (ins o left : ℕ) (m : o < mostPorts) (e : Except (senders qs o) ins left) where
     -- such a cell's input is in what is left of the senders
     left-has : (k : ℕ) → k < length cs → So (waitsOn (has ins) o (nth cs k)) → So (has left (nth cs k .input .0))
     left-has k l h =
         let w = waitsOn→ (has ins) o (nth cs k) h in
         e .each (nth cs k .input .0) ∙ join _ _ (subst (λ (p : ℕ). So (has (senders qs p) (nth cs k .input .0))) (w .2) (sends k l (w .0))) (deny _ (w .1))
 
-    is-servable : left < 2 ^ 16 → (left ≡ 0 → ⊥) → So (isServable (has ins) o cs)
+    is-servable : left < 2 ^ maskPorts → (left ≡ 0 → ⊥) → So (isServable (has ins) o cs)
     unfolding isServable
     is-servable small ne = ⊎-elim (λ x. x) (λ x. absurd (ne (none-inside left small (λ i l. to-no (λ h. none x i l h))))) (passes (any (λ k. waitsOn (has ins) o (nth cs k)) (length cs)))
       where
-        none : No (any (λ k. waitsOn (has ins) o (nth cs k)) (length cs)) → (i : ℕ) → i < 16 → So (has left i) → ⊥
+        none : No (any (λ k. waitsOn (has ins) o (nth cs k)) (length cs)) → (i : ℕ) → i < mostPorts → So (has left i) → ⊥
         none x i l h =
             let b = both (has (senders qs o) i) _ (sym (e .each i) ∙ h) in
             let s = sent i o l m (b .0) in
@@ -155,124 +161,128 @@ module _ {cs : List Cell} {qs : List ℕ} (q : Queues All cs qs) where
     not-servable z = to-no (λ x. let k = any→ (λ k. waitsOn (has ins) o (nth cs k)) (length cs) x in refuted (left-has (k .0) (k .1) (k .2)) (ap (λ (v : ℕ). has v (nth cs (k .0) .input .0)) z ∙ has-none _))
 
     -- the test of the code
-    pub servable-test : left < 2 ^ 16 → not (eqb left 0) ≡ isServable (has ins) o cs
+    pub servable-test : left < 2 ^ maskPorts → not (eqb left 0) ≡ isServable (has ins) o cs
     servable-test small = ⊎-elim (λ x. ap not x ∙ sym (not-servable (eqb-true left 0 x))) (λ x. ap not x ∙ sym (is-servable small (eqb-false left 0 x))) (passes (eqb left 0))
 
-    pub scan-none : Scanned (has ins) o cs left Nothing
-    scan-none = record {
-      part = λ i h. denied _ (both (has (senders qs o) i) _ (sym (e .each i) ∙ h) .1);
-      first = λ k l h. let b = both (waitsOn (has ins) o (nth cs k)) _ h in refuted (left-has k l (b .0)) (denied _ (b .1));
-    }
+-- Walks over ports -------------------------------------------------------------------------------
 
-module _ {ins : ℕ → Bool} {o : ℕ} {cs : List Cell} where
-  pub scan-more : {left rest : ℕ} {found : Found} (i : ℕ) → Scanned ins o cs left found → So (has left i) → Removed left i rest
-      → Scanned ins o cs rest (firstFound (olderAt cs) found (headOf cs i o))
-  scan-more {left} {rest} {found} i s h d = record {
-    part = λ j x. s .part j (removed-part d j x);
-    first =
-        first-join (olderAt cs) (ranks-on older older-ranks (nth cs)) _ (λ k. waitsFor i o (nth cs k)) _ (length cs)
-        (λ k l x. let b = both (waitsOn ins o (nth cs k)) _ x in join _ _ (b .0) (deny _ (removed-out d _ (denied _ (b .1)))))
-        (λ k l x.
-        let w = waits→ i o (nth cs k) x in
-        join _ _ (→waitsOn ins o (nth cs k) (w .0) (ap ins (w .1) ∙ s .part i h) (w .2)) (deny _ (ap (has rest) (w .1) ∙ d .outside)))
-        (λ k l x.
-        let b = both (waitsOn ins o (nth cs k)) _ x in
-        let w = waitsOn→ ins o (nth cs k) (b .0) in
-        ⊎-elim (λ e. inr (→waits i o (nth cs k) (w .0) e (w .2))) (λ n. inl (join _ _ (b .0) (deny _ n))) (removed-split d (nth cs k .input .0) (denied _ (b .1))))
-        found (headOf cs i o) (s .first) (head-first cs i o);
-  }
+-- found is the oldest of the cells for o, at inputs that are not in the one set and in the other
+abbrev pub ForOutput : (ℕ → Bool) → ℕ → List Cell → (ℕ → Bool) → Found → Type 0
+ForOutput ins o cs = FirstIn (λ k. waitsOn ins o (nth cs k)) (λ k. nth cs k .input .0) (olderAt cs) (length cs)
 
-  pub scan-below : {left : ℕ} {found : Found} → Scanned ins o cs left found → Below (length cs) found
-  scan-below {left} {found} s = first-below (λ k. waitsOn ins o (nth cs k) && not (has left (nth cs k .input .0))) (olderAt cs) (length cs) found (s .first)
+-- found is the oldest of the cells for outputs of s, at inputs that are not in the one set, for outputs in the other
+abbrev pub AmongOutputs : (ℕ → Bool) → ℕ → List Cell → (ℕ → Bool) → Found → Type 0
+AmongOutputs ins s cs = FirstIn (λ k. waitsAmong ins (has s) (nth cs k)) (λ k. nth cs k .output .0) (olderAt cs) (length cs)
 
-  pub scan-all : {found : Found} → Scanned ins o cs 0 found → found ≡ firstFor ins o cs
+pub walk-below : (test : ℕ → Bool) (port : ℕ → ℕ) (cs : List Cell) {v : ℕ → Bool} {x : Found} → FirstIn test port (olderAt cs) (length cs) v x → Below (length cs) x
+walk-below test port cs {v} {x} f = first-below (λ k. test k && v (port k)) (olderAt cs) (length cs) x (f .first)
+
+-- every port of what passes the test was visited
+walk-least : (test : ℕ → Bool) (port : ℕ → ℕ) (cs : List Cell) {v : ℕ → Bool} {x : Found} → ((k : ℕ) → k < length cs → So (test k) → So (v (port k)))
+    → FirstIn test port (olderAt cs) (length cs) v x → x ≡ least test (olderAt cs) (length cs)
+walk-least test port cs {v} {x} all f =
+    first-least (olderAt cs) (ranks-on older older-ranks (nth cs)) test (length cs) x
+    (first-alike (λ k. test k && v (port k)) test _ _ (length cs)
+    (λ k l. same-test _ (test k) (λ h. both (test k) _ h .0) (λ h. join (test k) _ h (all k l h)))
+    (λ j k l m a b. refl) x (f .first))
+
+module _ (ins : ℕ → Bool) (cs : List Cell) where
+  -- an input that is not taken is visited: the head of its pair
+  pub visit-input : (o : ℕ) {v : ℕ → Bool} {x : Found} (i : ℕ) → No (ins i) → ForOutput ins o cs v x → ForOutput ins o cs (also v i) (firstFound (olderAt cs) x (headOf cs i o))
+  visit-input o i n f =
+      first-visit (ranks-on older older-ranks (nth cs)) f i (λ k. waitsFor i o (nth cs k))
+      (λ k l. same-test _ _
+      (λ h. let w = waits→ i o (nth cs k) h in join _ _ (→waitsOn ins o (nth cs k) (w .0) (ap ins (w .1) ∙ n) (w .2)) (eq-eqb _ _ (w .1)))
+      (λ h. let b = both (waitsOn ins o (nth cs k)) _ h in let w = waitsOn→ ins o (nth cs k) (b .0) in →waits i o (nth cs k) (w .0) (eqb-true _ _ (b .1)) (w .2)))
+      (headOf cs i o) (head-first cs i o)
+
+  first-for : (o : ℕ) → First (λ k. waitsOn ins o (nth cs k)) (olderAt cs) (length cs) (firstFor ins o cs)
   unfolding firstFor
-  scan-all {found} s =
-      first-least (olderAt cs) (ranks-on older older-ranks (nth cs)) (λ k. waitsOn ins o (nth cs k)) (length cs) found
-      (first-alike _ _ _ _ (length cs) (λ k l. ap (λ (b : Bool). waitsOn ins o (nth cs k) && not b) (has-none (nth cs k .input .0)) ∙ and-true (waitsOn ins o (nth cs k))) (λ j k l m x y. refl) found (s .first))
+  first-for o = least-first (olderAt cs) (ranks-on older older-ranks (nth cs)) (λ k. waitsOn ins o (nth cs k)) (length cs)
 
-module _ (ins : ℕ → Bool) (o : ℕ) (cs : List Cell) where
-  first-for : First (λ k. waitsOn ins o (nth cs k)) (olderAt cs) (length cs) (firstFor ins o cs)
-  unfolding firstFor
-  first-for = least-first (olderAt cs) (ranks-on older older-ranks (nth cs)) (λ k. waitsOn ins o (nth cs k)) (length cs)
+  -- an output of the set is visited: the first cell for it
+  pub visit-output : (s : ℕ) {v : ℕ → Bool} {x : Found} (o : ℕ) → So (has s o) → AmongOutputs ins s cs v x
+      → AmongOutputs ins s cs (also v o) (firstFound (olderAt cs) x (firstFor ins o cs))
+  visit-output s o h f =
+      first-visit (ranks-on older older-ranks (nth cs)) f o (λ k. waitsOn ins o (nth cs k))
+      (λ k l. same-test _ _
+      (λ g. let w = waitsOn→ ins o (nth cs k) g in join _ _ (→among ins (has s) (nth cs k) (w .0) (w .1) (ap (has s) (w .2) ∙ h)) (eq-eqb _ _ (w .2)))
+      (λ g. let b = both (waitsAmong ins (has s) (nth cs k)) _ g in let w = among→ ins (has s) (nth cs k) (b .0) in →waitsOn ins o (nth cs k) (w .0) (w .1) (eqb-true _ _ (b .1))))
+      (firstFor ins o cs) (first-for o)
 
-  pub first-for-below : Below (length cs) (firstFor ins o cs)
-  first-for-below = first-below (λ k. waitsOn ins o (nth cs k)) (olderAt cs) (length cs) (firstFor ins o cs) first-for
+  pub all-outputs : (s : ℕ) {x : Found} → AmongOutputs ins s cs (has s) x → x ≡ firstAmong ins (has s) cs
+  unfolding firstAmong
+  all-outputs s f = walk-least (λ k. waitsAmong ins (has s) (nth cs k)) _ cs (λ k l h. among→ ins (has s) (nth cs k) h .2) f
 
--- The lowest readings ---------------------------------------------------------------------------------
+-- every sender that is not taken was visited
+pub all-inputs : {cs : List Cell} {qs : List ℕ} → Queues All cs qs → (ins o left : ℕ) → o < mostPorts → Except (senders qs o) ins left
+    → {x : Found} → ForOutput (has ins) o cs (has left) x → x ≡ firstFor (has ins) o cs
+unfolding firstFor
+all-inputs {cs} q ins o left m e f = walk-least (λ k. waitsOn (has ins) o (nth cs k)) _ cs (λ k l h. left-has q ins o left m e k l h) f
 
--- the outputs of the set can be served and have the reading low; of the outputs that are neither taken nor left, no other with such a reading can,
--- and none with a lower
-pub record Low (r : List ℕ) (ins outs : ℕ → Bool) (cs : List Cell) (left s low : ℕ) : Type 0 where
-  pub part : (o : ℕ) → So (has left o) → No (outs o)
-  pub inside : (o : ℕ) → So (has s o) → So (isServable ins o cs) × No (outs o) × (readingFor r (outputOf o) ≡ low)
-  pub beyond : (o : ℕ) → o < 16 → No (outs o) → No (has left o) → So (isServable ins o cs) → No (has s o) → low < readingFor r (outputOf o)
-  pub some : (o : ℕ) → o < 16 → No (outs o) → No (has left o) → So (isServable ins o cs) → (p : ℕ) × So (has s p)
+pub first-for-below : (ins : ℕ → Bool) (o : ℕ) (cs : List Cell) → Below (length cs) (firstFor ins o cs)
+first-for-below ins o cs = first-below (λ k. waitsOn ins o (nth cs k)) (olderAt cs) (length cs) (firstFor ins o cs) (first-for ins cs o)
 
--- all outputs looked at
-pub record Lows (r : List ℕ) (ins outs : ℕ → Bool) (cs : List Cell) (s : ℕ) : Type 0 where
-  pub low : ℕ
-  pub all : Low r ins outs cs 0 s low
+-- The lowest readings ----------------------------------------------------------------------------
 
--- how an output o with reading x changes the set s of outputs with the lowest reading
-abbrev pub Lowered : ℕ → ℕ → ℕ → ℕ → ℕ → ℕ → Type 0
-Lowered x o s low t lower = (((s ≡ 0) ⊎ (x < low)) × Added 0 o t × (lower ≡ x)) ⊎ (((x ≡ low) × Added s o t × (lower ≡ low)) ⊎ ((low < x) × ((p : ℕ) × So (has s p)) × (t ≡ s) × (lower ≡ low)))
+-- l are those of the outputs v that can be served with the lowest reading
+pub record Lowering (r : List ℕ) (ins : ℕ → Bool) (cs : List Cell) (v : ℕ → Bool) (l : Lowest) : Type 0 where
+  pub lowest : LowestOf (λ o. isServable ins o cs) (λ o. readingFor r (outputOf o)) v (has (l .outputs)) (l .reading)
+  pub some : (l .outputs ≡ 0) ⊎ ((o : ℕ) × So (has (l .outputs) o))
 
-module _ {r : List ℕ} {ins outs : ℕ → Bool} {cs : List Cell} where
-  pub low-none : {qs : List ℕ} {taken left : ℕ} → Queues All cs qs → ((q : ℕ) → has taken q ≡ outs q) → Except (wanted qs) taken left → (low : ℕ) → Low r ins outs cs left 0 low
-  low-none {qs} {taken} {left} q same e low = record {
-    part = λ o h. sym (same o) ∙ denied _ (both (has (wanted qs) o) _ (sym (e .each o) ∙ h) .1);
-    inside = λ o h. absurd (refuted h (has-none o));
-    beyond = λ o l n m w. absurd (refuted (there o n w) m);
-    some = λ o l n m w. absurd (refuted (there o n w) m);
-  }
-    where
-      there : (o : ℕ) → No (outs o) → So (isServable ins o cs) → So (has left o)
-      there o n w = e .each o ∙ join _ _ (wants q o ins w) (deny _ (same o ∙ n))
+module _ {r : List ℕ} {ins : ℕ → Bool} {cs : List Cell} where
+  pub lowering-none : (x : ℕ) → Lowering r ins cs nobody (record { outputs = 0; reading = x })
+  lowering-none x = record { lowest = rw has-nobody (lowest-nobody x); some = inl refl }
 
-  module _ {left s low : ℕ} (h : Low r ins outs cs left s low) (o : ℕ) (x : So (has left o)) {rest : ℕ} (d : Removed left o rest) where
-    -- it cannot be served
-    pub low-skip : No (isServable ins o cs) → Low r ins outs cs rest s low
-    low-skip n = record {
-      part = λ p y. h .part p (removed-part d p y);
-      inside = h .inside;
-      beyond = λ p l a b c. h .beyond p l a (old p b c) c;
-      some = λ p l a b c. h .some p l a (old p b c) c;
-    }
-      where
-        old : (p : ℕ) → No (has rest p) → So (isServable ins p cs) → No (has left p)
-        old p b c = ⊎-elim (λ e. absurd (refuted c (ap (λ (v : ℕ). isServable ins v cs) e ∙ n))) (λ m. m) (removed-split d p b)
+  module _ {v : ℕ → Bool} {l : Lowest} (h : Lowering r ins cs v l) (o : ℕ) where
+    -- output o is visited and cannot be served
+    pub lowering-skip : No (isServable ins o cs) → Lowering r ins cs (also v o) l
+    lowering-skip n = record { lowest = lowest-skip (h .lowest) o n; some = h .some }
 
     -- it can
-    module _ (w : So (isServable ins o cs)) {v t lower : ℕ} (e : v ≡ readingFor r (outputOf o)) where
-      pub low-step : Lowered v o s low t lower → Low r ins outs cs rest t lower
-      low-step (inl (c, a, q)) = record {
-        part = λ p y. h .part p (removed-part d p y);
-        inside = λ p y. let z = only p y in rw (z, q) (w, h .part o x, sym e);
-        beyond = λ p l m n y k. ⊎-elim (λ z. absurd (refuted (ap (has t) z ∙ a .inside) k)) (λ z. rw (q) (⊎-elim (λ u. absurd (let g = h .some p l m z y in refuted (ap (λ (b : ℕ). has b (g .0)) (sym u) ∙ g .1) (has-none (g .0)))) (λ u. above p l m z y u) c)) (removed-split d p n);
-        some = λ p l m n y. (o, a .inside);
-      }
-        where
-          only : (p : ℕ) → So (has t p) → p ≡ o
-          only p y = ⊎-elim (λ z. z) (λ z. absurd (refuted z (has-none p))) (added-split a p y)
+    pub lowering-visit : So (isServable ins o cs) → (x : ℕ) → x ≡ readingFor r (outputOf o) → Lowering r ins cs (also v o) (lowered l o x)
+    unfolding lowered
+    lowering-visit c x e = go (eqb (l .outputs) 0) (ltb x (l .reading)) (ltb (l .reading) x) refl refl refl
+      where
+        fresh : ((q : ℕ) → No (has (l .outputs) q)) ⊎ (x < l .reading) → Lowering r ins cs (also v o) (record { outputs = withPort 0 o; reading = x })
+        fresh less =
+            let a = added {r = withPort 0 o} refl in
+            record {
+              lowest = rw (added-also a, has-nobody, e) (lowest-fresh (h .lowest) o c (rw e at less));
+              some = inr (o, a .inside);
+            }
 
-          above : (p : ℕ) → p < 16 → No (outs p) → No (has left p) → So (isServable ins p cs) → v < low → v < readingFor r (outputOf p)
-          above p l m z y u = ⊎-elim (λ k. omega (arith, h .inside p k .2)) (λ k. omega (arith, h .beyond p l m z y k)) (passes (has s p))
-      low-step (inr (inl (c, a, q))) = record {
-        part = λ p y. h .part p (removed-part d p y);
-        inside = λ p y. rw q (⊎-elim (λ (z : p ≡ o). rw z (w, h .part o x, sym e ∙ c)) (λ z. h .inside p z) (added-split a p y));
-        beyond = λ p l m n y k. rw q (⊎-elim (λ z. absurd (refuted (ap (has t) z ∙ a .inside) k)) (λ z. h .beyond p l m z y (out p k)) (removed-split d p n));
-        some = λ p l m n y. (o, a .inside);
-      }
-        where
-          out : (p : ℕ) → No (has t p) → No (has s p)
-          out p k = ⊎-elim (λ z. absurd (refuted (ap (has t) (eqb-true p o z) ∙ a .inside) k)) (λ z. sym (a .others p (eqb-false p o z)) ∙ k) (passes (eqb p o))
-      low-step (inr (inr (c, g, a, q))) = rw (a, q) (record {
-        part = λ p y. h .part p (removed-part d p y);
-        inside = h .inside;
-        beyond = λ p l m n y k. ⊎-elim (λ z. rw z (omega (arith, c, e))) (λ z. h .beyond p l m z y k) (removed-split d p n);
-        some = λ p l m n y. g;
-      })
+        go : (a b d : Bool) → eqb (l .outputs) 0 ≡ a → ltb x (l .reading) ≡ b → ltb (l .reading) x ≡ d
+            → Lowering r ins cs (also v o) (cond a (record { outputs = withPort 0 o; reading = x })
+            (cond b (record { outputs = withPort 0 o; reading = x }) (cond d l (record { outputs = withPort (l .outputs) o; reading = l .reading }))))
+        go true b d i j k = fresh (inl (λ q. ap (λ (m : ℕ). has m q) (eqb-true _ _ i) ∙ has-none q))
+        go false true d i j k = fresh (inr (ltb-true _ _ j))
+        go false false true i j k =
+            let g = ⊎-elim (λ z. absurd (eqb-false _ _ i z)) (λ y. y) (h .some) in
+            record { lowest = lowest-above (h .lowest) o c (omega (arith, e, ltb-true (l .reading) x k)) (g .0) (g .1); some = h .some }
+        go false false false i j k =
+            let a = added {r = withPort (l .outputs) o} refl in
+            record { lowest = rw (added-also a) (lowest-tie (h .lowest) o c (omega (arith, e, ltb-false x (l .reading) j, ltb-false (l .reading) x k))); some = inr (o, a .inside) }
+
+-- of the outputs that are not taken and can be served, those of the set s have the lowest reading
+pub record Lows (r : List ℕ) (q : Taken) (cs : List Cell) (s : ℕ) : Type 0 where
+  pub low : ℕ
+  pub all : LowestOf (λ o. isServable (has (q .inputs)) o cs) (λ o. readingFor r (outputOf o)) (λ o. not (has (q .outputs) o)) (has s) low
+
+-- every output that is wanted and not taken was visited
+pub all-wanted : {r : List ℕ} {q : Taken} {cs : List Cell} {qs : List ℕ} {left : ℕ} {l : Lowest} → Queues All cs qs → Except (wanted qs) (q .outputs) left
+    → Lowering r (has (q .inputs)) cs (has left) l → Lows r q cs (l .outputs)
+all-wanted {r} {q} {cs} {qs} {left} {l} w e h = record {
+  low = l .reading;
+  all = record {
+    inside = λ o x. let i = h .lowest .inside o x in (deny _ (except-out e o (i .0)), i .1, i .2);
+    beyond = λ o n c. h .lowest .beyond o (there o n c) c;
+    some = λ o n c. h .lowest .some o (there o n c) c;
+  };
+}
+  where
+    there : (o : ℕ) → So (not (has (q .outputs) o)) → So (isServable (has (q .inputs)) o cs) → So (has left o)
+    there o n c = e .each o ∙ join _ _ (wants w o (has (q .inputs)) c) n
 
 -- with the same reading the older cell stands before, with a lower one any cell
 ahead : (r : List ℕ) (cell : ℕ → Cell) (k j : ℕ) → readingFor r (cell k .output) ≡ readingFor r (cell j .output) → Ahead (λ a b. older (cell a) (cell b)) k j → Ahead (λ a b. before r (cell a) (cell b)) k j
@@ -284,102 +294,63 @@ before-lower : (r : List ℕ) (c d : Cell) → readingFor r (c .output) < readin
 unfolding before
 before-lower r c d l = lower-below _ _ _ l
 
--- From round to round --------------------------------------------------------------------------------
+-- From round to round ----------------------------------------------------------------------------
 
 -- the outputs of the set have one reading; every other that is not taken and can be served has a higher
-pub record Kept (r : List ℕ) (ins outs : ℕ → Bool) (cs : List Cell) (s : ℕ) : Type 0 where
+pub record Kept (r : List ℕ) (q : Taken) (cs : List Cell) (s : ℕ) : Type 0 where
   pub alike : (o p : ℕ) → So (has s o) → So (has s p) → readingFor r (outputOf o) ≡ readingFor r (outputOf p)
-  pub beyond : (o p : ℕ) → So (has s o) → p < 16 → No (outs p) → So (isServable ins p cs) → No (has s p) → readingFor r (outputOf o) < readingFor r (outputOf p)
+  pub beyond : (o p : ℕ) → So (has s o) → No (has (q .outputs) p) → So (isServable (has (q .inputs)) p cs) → No (has s p)
+      → readingFor r (outputOf o) < readingFor r (outputOf p)
 
-pub kept-none : (r : List ℕ) (ins outs : ℕ → Bool) (cs : List Cell) → Kept r ins outs cs 0
-kept-none r ins outs cs = record { alike = λ o p x. absurd (refuted x (has-none o)); beyond = λ o p x. absurd (refuted x (has-none o)) }
+pub kept-none : (r : List ℕ) (q : Taken) (cs : List Cell) → Kept r q cs 0
+kept-none r q cs = record { alike = λ o p x. absurd (refuted x (has-none o)); beyond = λ o p x. absurd (refuted x (has-none o)) }
 
-pub kept-lows : {r : List ℕ} {ins outs : ℕ → Bool} {cs : List Cell} {s : ℕ} → Lows r ins outs cs s → Kept r ins outs cs s
-kept-lows {r} {ins} {outs} {cs} {s} w = record {
+pub kept-lows : {r : List ℕ} {q : Taken} {cs : List Cell} {s : ℕ} → Lows r q cs s → Kept r q cs s
+kept-lows w = record {
   alike = λ o p x y. w .all .inside o x .2 ∙ sym (w .all .inside p y .2);
-  beyond = λ o p x l n y m. omega (arith, w .all .inside o x .2, w .all .beyond p l n (has-none p) y m);
+  beyond = λ o p x n y m. omega (arith, w .all .inside o x .2, w .all .beyond p (deny _ n) y m);
 }
 
 -- the taken ones go
-module _ {s taken left : ℕ} (e : Except s taken left) where
-  pub left-free : (o : ℕ) → So (has left o) → No (has taken o)
-  left-free o x = denied _ (both (has s o) _ (sym (e .each o) ∙ x) .1)
-
-  pub kept-left : {r : List ℕ} {ins : ℕ → Bool} {cs : List Cell} → Kept r ins (has taken) cs s → Kept r ins (has taken) cs left
-  kept-left {r} {ins} {cs} h = record {
-    alike = λ o p x y. h .alike o p (was o x) (was p y);
-    beyond = λ o p x l n y m. h .beyond o p (was o x) l n y (to-no (λ z. refuted (e .each p ∙ join _ _ z (deny _ n)) m));
-  }
-    where
-      was : (o : ℕ) → So (has left o) → So (has s o)
-      was o x = both (has s o) _ (sym (e .each o) ∙ x) .0
+pub kept-left : {r : List ℕ} {q : Taken} {cs : List Cell} {s left : ℕ} → Except s (q .outputs) left → Kept r q cs s → Kept r q cs left
+kept-left {r} {q} {cs} {s} {left} e h = record {
+  alike = λ o p x y. h .alike o p (except-in e o x) (except-in e p y);
+  beyond = λ o p x n y m. h .beyond o p (except-in e o x) n y (to-no (λ z. refuted (e .each p ∙ join _ _ z (deny _ n)) m));
+}
 
 -- a cell is taken: the readings stay, and what can be served gets less
-module _ {us vs : List Cell} {q next : Taken} {ns ms : List ℕ} {k : ℕ} (t : Takes us q ns k vs next ms) (l : k < length us) where
+module _ {us vs qs : List ℕ} {q next : Taken} {ns ms : List ℕ} {k : ℕ} (t : Takes us q ns k vs qs next ms) (l : k < length (cellsOf us)) where
+  cells : cellsOf vs ≡ set (cellsOf us) k (placed 2 (nth (cellsOf us) k))
+  cells = ap cellsOf (t .table) ∙ cellsOf-stored us k (placed 2 (nth (cellsOf us) k))
+
   -- a cell that still waits is another one
-  still : (j : ℕ) → So (isWaiting (nth vs j)) → nth vs j ≡ nth us j
+  still : (j : ℕ) → So (isWaiting (nth (cellsOf vs) j)) → nth (cellsOf vs) j ≡ nth (cellsOf us) j
   still j w =
       ⊎-elim
-      (λ x. let e : j ≡ k = eqb-true j k x in absurd (omega (arith, waiting→ _ w, ap (λ (c : Cell). c .place) (ap (λ (i : ℕ). nth vs i) e ∙ ap (λ (cs : List Cell). nth cs k) (t .cells) ∙ getD-set-same us k (placed 2 (nth us k)) free l))))
-      (λ x. ap (λ (cs : List Cell). nth cs j) (t .cells) ∙ getD-set-other us k j (placed 2 (nth us k)) free (eqb-false j k x))
+      (λ x. let e : j ≡ k = eqb-true j k x in absurd (omega (arith, waiting→ _ w, ap (λ (i : ℕ). nth (cellsOf vs) i .place) e, ap (λ (c : Cell). c .place) here)))
+      (λ x. ap (λ (cs : List Cell). nth cs j) cells ∙ getD-set-other (cellsOf us) k j (placed 2 (nth (cellsOf us) k)) free (eqb-false j k x))
       (passes (eqb j k))
+    where
+      here : nth (cellsOf vs) k ≡ placed 2 (nth (cellsOf us) k)
+      here = ap (λ (cs : List Cell). nth cs k) cells ∙ getD-set-same (cellsOf us) k (placed 2 (nth (cellsOf us) k)) free l
 
-  still-servable : (o : ℕ) → So (isServable (has (next .inputs)) o vs) → So (isServable (has (q .inputs)) o us)
+  still-servable : (o : ℕ) → So (isServable (has (next .inputs)) o (cellsOf vs)) → So (isServable (has (q .inputs)) o (cellsOf us))
   unfolding isServable
   still-servable o h =
-      let j = any→ (λ j. waitsOn (has (next .inputs)) o (nth vs j)) (length vs) h in
-      let w = waitsOn→ (has (next .inputs)) o (nth vs (j .0)) (j .2) in
+      let j = any→ (λ j. waitsOn (has (next .inputs)) o (nth (cellsOf vs) j)) (length (cellsOf vs)) h in
+      let w = waitsOn→ (has (next .inputs)) o (nth (cellsOf vs) (j .0)) (j .2) in
       let e = still (j .0) (w .0) in
-      →any (λ j. waitsOn (has (q .inputs)) o (nth us j)) (length us) (j .0) (omega (arith, j .1, ap length (t .cells), length-set us k (placed 2 (nth us k))))
-      (rw (← e) (→waitsOn (has (q .inputs)) o (nth vs (j .0)) (w .0) (to-no (λ x. refuted (added-kept (t .inputs) _ x) (w .1))) (w .2)))
+      →any (λ j. waitsOn (has (q .inputs)) o (nth (cellsOf us) j)) (length (cellsOf us)) (j .0)
+      (omega (arith, j .1, ap length cells, length-set (cellsOf us) k (placed 2 (nth (cellsOf us) k))))
+      (rw (← e) (→waitsOn (has (q .inputs)) o (nth (cellsOf vs) (j .0)) (w .0) (to-no (λ x. refuted (added-kept (t .inputs) _ x) (w .1))) (w .2)))
 
-  pub kept-take : {r : List ℕ} {s : ℕ} → Kept r (has (q .inputs)) (has (q .outputs)) us s → Kept r (has (next .inputs)) (has (next .outputs)) vs s
+  pub kept-take : {r : List ℕ} {s : ℕ} → Kept r q (cellsOf us) s → Kept r next (cellsOf vs) s
   kept-take {r} {s} h = record {
     alike = h .alike;
-    beyond = λ o p x m n y z. h .beyond o p x m (to-no (λ v. refuted (added-kept (t .outputs) p v) n)) (still-servable p y) z;
+    beyond = λ o p x n y z. h .beyond o p x (to-no (λ v. refuted (added-kept (t .outputs) p v) n)) (still-servable p y) z;
   }
 
--- The round -------------------------------------------------------------------------------------------
-
--- found is the oldest of the cells whose inputs are not in the one set and whose outputs are in the other and not left
-pub record Round (ins : ℕ → Bool) (cs : List Cell) (s left : ℕ) (found : Found) : Type 0 where
-  pub part : (o : ℕ) → So (has left o) → So (has s o)
-  pub first : First (λ k. waitsAmong ins (has s) (nth cs k) && not (has left (nth cs k .output .0))) (olderAt cs) (length cs) found
-
-module _ {ins : ℕ → Bool} {cs : List Cell} {s : ℕ} where
-  pub round-none : Round ins cs s s Nothing
-  round-none = record {
-    part = λ o h. h;
-    first = λ k l h. let b = both (waitsAmong ins (has s) (nth cs k)) _ h in refuted (among→ ins (has s) (nth cs k) (b .0) .2) (denied _ (b .1));
-  }
-
-  pub round-more : {left rest : ℕ} {found : Found} (o : ℕ) → Round ins cs s left found → So (has left o) → Removed left o rest
-      → Round ins cs s rest (firstFound (olderAt cs) found (firstFor ins o cs))
-  round-more {left} {rest} {found} o t h d = record {
-    part = λ p x. t .part p (removed-part d p x);
-    first =
-        first-join (olderAt cs) (ranks-on older older-ranks (nth cs)) _ (λ k. waitsOn ins o (nth cs k)) _ (length cs)
-        (λ k l x. let b = both (waitsAmong ins (has s) (nth cs k)) _ x in join _ _ (b .0) (deny _ (removed-out d _ (denied _ (b .1)))))
-        (λ k l x.
-        let v = waitsOn→ ins o (nth cs k) x in
-        join _ _ (→among ins (has s) (nth cs k) (v .0) (v .1) (ap (has s) (v .2) ∙ t .part o h)) (deny _ (ap (has rest) (v .2) ∙ d .outside)))
-        (λ k l x.
-        let b = both (waitsAmong ins (has s) (nth cs k)) _ x in
-        let v = among→ ins (has s) (nth cs k) (b .0) in
-        ⊎-elim (λ e. inr (→waitsOn ins o (nth cs k) (v .0) (v .1) e)) (λ n. inl (join _ _ (b .0) (deny _ n))) (removed-split d (nth cs k .output .0) (denied _ (b .1))))
-        found (firstFor ins o cs) (t .first) (first-for ins o cs);
-  }
-
-  pub round-below : {left : ℕ} {found : Found} → Round ins cs s left found → Below (length cs) found
-  round-below {left} {found} t = first-below (λ k. waitsAmong ins (has s) (nth cs k) && not (has left (nth cs k .output .0))) (olderAt cs) (length cs) found (t .first)
-
-  pub round-all : {found : Found} → Round ins cs s 0 found → found ≡ firstAmong ins (has s) cs
-  unfolding firstAmong
-  round-all {found} t =
-      first-least (olderAt cs) (ranks-on older older-ranks (nth cs)) (λ k. waitsAmong ins (has s) (nth cs k)) (length cs) found
-      (first-alike _ _ _ _ (length cs) (λ k l. ap (λ (b : Bool). waitsAmong ins (has s) (nth cs k) && not b) (has-none (nth cs k .output .0)) ∙ and-true (waitsAmong ins (has s) (nth cs k))) (λ j k l m x y. refl) found (t .first))
-
--- What the round finds --------------------------------------------------------------------------------
+-- What the round finds ---------------------------------------------------------------------------
 
 first-among : (ins : ℕ → Bool) (s : ℕ) (cs : List Cell) → First (λ k. waitsAmong ins (has s) (nth cs k)) (olderAt cs) (length cs) (firstAmong ins (has s) cs)
 unfolding firstAmong
@@ -403,7 +374,13 @@ served ins cs s o y x =
     (k .0, k .1, →among ins (has s) (nth cs (k .0)) (v .0) (v .1) (ap (has s) (v .2) ∙ y))
 
 -- among outputs that are kept and not taken, the oldest cell is the first candidate
-module _ {r : List ℕ} {ins outs : ℕ → Bool} {cs : List Cell} {s : ℕ} (f : InPorts 16 cs) (h : Kept r ins outs cs s) (n : (o : ℕ) → So (has s o) → No (outs o)) where
+module _ {r : List ℕ} {q : Taken} {cs : List Cell} {s : ℕ} (h : Kept r q cs s) (n : (o : ℕ) → So (has s o) → No (has (q .outputs) o)) where
+  abbrev ins : ℕ → Bool
+  ins = has (q .inputs)
+
+  abbrev outs : ℕ → Bool
+  outs = has (q .outputs)
+
   oldest : (k : ℕ) → First (λ k. waitsAmong ins (has s) (nth cs k)) (olderAt cs) (length cs) (At k) → First (λ k. candidate ins outs (nth cs k)) (beforeAt r cs) (length cs) (At k)
   oldest k t =
       let a = among→ ins (has s) (nth cs k) (t .1) in (
@@ -412,22 +389,87 @@ module _ {r : List ℕ} {ins outs : ℕ → Bool} {cs : List Cell} {s : ℕ} (f 
         λ j l x.
             let v = candidate→ ins outs (nth cs j) x in
             ⊎-elim
-            (λ y. ahead r (nth cs) k j (h .alike (nth cs k .output .0) (nth cs j .output .0) (a .2) y) (t .2 j l (→among ins (has s) (nth cs j) (v .0) (v .1) y)))
-            (λ y. inl (before-lower r (nth cs k) (nth cs j) (h .beyond (nth cs k .output .0) (nth cs j .output .0) (a .2) (f .outputs j l (waiting→ _ (v .0))) (v .2) (servable ins outs cs j l x) y)))
+            (λ y. ahead r (nth cs) k j (h .alike _ _ (a .2) y) (t .2 j l (→among ins (has s) (nth cs j) (v .0) (v .1) y)))
+            (λ y. inl (before-lower r (nth cs k) (nth cs j) (h .beyond (nth cs k .output .0) (nth cs j .output .0) (a .2) (v .2) (servable ins outs cs j l x) y)))
             (passes (has s (nth cs j .output .0))),
       )
 
-  pub kept-first : {k : ℕ} → firstAmong ins (has s) cs ≡ At k → At k ≡ firstCandidate r ins outs cs
-  kept-first {k} e = is-first r ins outs cs (At k) (oldest k (subst (λ (x : Found). First (λ k. waitsAmong ins (has s) (nth cs k)) (olderAt cs) (length cs) x) e (first-among ins s cs)))
+  pub kept-first : {k : ℕ} → firstAmong (has (q .inputs)) (has s) cs ≡ At k → At k ≡ firstCandidate r (has (q .inputs)) (has (q .outputs)) cs
+  kept-first {k} e =
+      is-first r ins outs cs (At k)
+      (oldest k (subst (λ (x : Found). First (λ k. waitsAmong ins (has s) (nth cs k)) (olderAt cs) (length cs) x) e (first-among ins s cs)))
 
 -- among the outputs with the lowest reading there is a cell where there is a candidate
-pub lows-first : {r : List ℕ} {ins outs : ℕ → Bool} {cs : List Cell} {s : ℕ} → InPorts 16 cs → Lows r ins outs cs s → firstAmong ins (has s) cs ≡ firstCandidate r ins outs cs
-lows-first {r} {ins} {outs} {cs} {s} f w = is-first r ins outs cs _ (go (firstAmong ins (has s) cs) (first-among ins s cs))
+pub lows-first : {r : List ℕ} {q : Taken} {cs : List Cell} {s : ℕ} → Lows r q cs s
+    → firstAmong (has (q .inputs)) (has s) cs ≡ firstCandidate r (has (q .inputs)) (has (q .outputs)) cs
+lows-first {r} {q} {cs} {s} w = is-first r (has (q .inputs)) (has (q .outputs)) cs _ (go (firstAmong (has (q .inputs)) (has s) cs) (first-among (has (q .inputs)) s cs))
   where
-    go : (found : Found) → First (λ k. waitsAmong ins (has s) (nth cs k)) (olderAt cs) (length cs) found → First (λ k. candidate ins outs (nth cs k)) (beforeAt r cs) (length cs) found
-    go (At k) t = oldest f (kept-lows w) (λ o x. w .all .inside o x .1) k t
+    go : (found : Found) → First (λ k. waitsAmong (has (q .inputs)) (has s) (nth cs k)) (olderAt cs) (length cs) found
+        → First (λ k. candidate (has (q .inputs)) (has (q .outputs)) (nth cs k)) (beforeAt r cs) (length cs) found
+    go (At k) t = oldest (kept-lows w) (λ o x. denied _ (w .all .inside o x .0)) k t
     go Nothing t = λ j l x.
-        let v = candidate→ ins outs (nth cs j) x in
-        let o = w .all .some (nth cs j .output .0) (f .outputs j l (waiting→ _ (v .0))) (v .2) (has-none (nth cs j .output .0)) (servable ins outs cs j l x) in
-        let k = served ins cs s (o .0) (o .1) (w .all .inside (o .0) (o .1) .0) in
+        let v = candidate→ (has (q .inputs)) (has (q .outputs)) (nth cs j) x in
+        let o = w .all .some (nth cs j .output .0) (deny _ (v .2)) (servable (has (q .inputs)) (has (q .outputs)) cs j l x) in
+        let k = served (has (q .inputs)) cs s (o .0) (o .1) (w .all .inside (o .0) (o .1) .1) in
         t (k .0) (k .1) (k .2)
+
+-- Rounds of picking ------------------------------------------------------------------------------
+
+-- after i rounds on the table ws: what was picked shows, the queues are the table's, and the outputs kept stay those with the lowest reading
+pub record AfterRounds (n : ℕ) (r ws us qs : List ℕ) (q : Taken) (ns : List ℕ) (lows i : ℕ) : Type 0 where
+  pub rounds : i ≤ n
+  pub shows : Shows ws (picks r (cellsOf ws) i) us q ns
+  pub queues : Queues All (cellsOf us) qs
+  pub kept : Kept r q (cellsOf us) lows
+
+pub rounds-none : (n : ℕ) (r ws qs : List ℕ) (q : Taken) (ns : List ℕ) → Queues All (cellsOf ws) qs → q .inputs ≡ 0 → q .outputs ≡ 0 → length ns ≡ mostPorts
+    → AfterRounds n r ws ws qs q ns 0 0
+rounds-none n r ws qs q ns h i o l =
+    record { rounds = omega arith; shows = rw (over-zero _ _) (shows-none ws q ns i o l); queues = h; kept = kept-none r q (cellsOf ws) }
+
+module _ {n : ℕ} {r ws us qs : List ℕ} {q : Taken} {ns : List ℕ} {lows i : ℕ} (a : AfterRounds n r ws us qs q ns lows i) where
+  -- all rounds, or a round that finds nothing
+  pub rounds-all : i ≡ n → Picked n r ws us qs q ns
+  rounds-all e = record { shows = rw (← picks-all r (cellsOf ws) n, ← e) (a .shows); queues = a .queues }
+
+  module _ {found : Found} (e : found ≡ firstCandidate r (has (q .inputs)) (has (q .outputs)) (cellsOf us)) where
+    pub rounds-stop : found ≡ Nothing → Picked n r ws us qs q ns
+    rounds-stop none =
+        record { shows = rw (stops r (cellsOf ws) i n (a .rounds) (sym (finds (a .shows) r) ∙ sym e ∙ none)) at (a .shows); queues = a .queues }
+
+    -- one that finds record k
+    module _ {k : ℕ} (at : found ≡ At k) (o : Orderly n ws) where
+      opened : firstOpen r (cellsOf ws) (picks r (cellsOf ws) i) ≡ At k
+      opened = sym (finds (a .shows) r) ∙ sym e ∙ at
+
+      inside : k < length (cellsOf ws)
+      inside = open-found r (cellsOf ws) (picks r (cellsOf ws) i) k opened .0
+
+      is-open : So (isOpen (cellsOf ws) (picks r (cellsOf ws) i) k)
+      is-open = open-found r (cellsOf ws) (picks r (cellsOf ws) i) k opened .1
+
+      waits : nth (cellsOf ws) k .place ≡ 1
+      waits = open-waits (cellsOf ws) (picks r (cellsOf ws) i) k is-open
+
+      pub rounds-take : Takeable us qs k
+      rounds-take =
+          let s = cell-same (a .shows) k inside in
+          record {
+            inside = omega (arith, inside, length-cellsOf ws, same-records us ws (shown-long (a .shows)));
+            few = rw (same-records us ws (shown-long (a .shows))) (o .few);
+            queues = a .queues;
+            ports = record {
+              input = omega (arith, s .input, o .small, o .inside .inputs k inside waits);
+              output = omega (arith, s .output, o .small, o .inside .outputs k inside waits);
+            };
+          }
+
+      pub rounds-more : {vs qs′ : List ℕ} {next : Taken} {ms : List ℕ} {lows′ : ℕ} → i < n → Kept r q (cellsOf us) lows′ → Takes us q ns k vs qs′ next ms
+          → AfterRounds n r ws vs qs′ next ms lows′ (i + 1)
+      rounds-more l h t =
+          record {
+            rounds = omega arith;
+            shows = rw (picks-more r (cellsOf ws) i, opened) (shows-add (a .shows) k inside is-open t (omega (arith, o .small, o .inside .outputs k inside waits)));
+            queues = t .queues;
+            kept = kept-take t (omega (arith, inside, length-shown (a .shows))) h;
+          }

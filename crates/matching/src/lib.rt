@@ -1,45 +1,51 @@
 // A transfer phase: rounds of picking by the queues' heads, and the match words; and S phases by one reading.
 use laws::Found;
+use queues::QUEUE_WORDS;
+use rules::Input;
+use rules::Output;
+use rules::PORT_COUNT;
 use table::Reading;
 ghost use mathlib.Core.Path.{_≡_};
-ghost use Prim.Native.Nat.{_+_, _*_, _<_, _≤_};
+ghost use Prim.Native.Nat.{_*_, _<_};
 ghost use lib.ListN.{length};
 ghost use Rattle.ports.specs.Ports.{has};
 ghost use Rattle.queues.specs.Queues.{All, Queues};
-ghost use Rattle.rules.specs.Cells.{nth, records, cellsOf};
-ghost use Rattle.rules.specs.Phases.{matchOf, phases};
+ghost use Rattle.rules.specs.Cells.{mostPorts, cellsOf};
+ghost use Rattle.rules.specs.Phases.{phases};
 ghost use Rattle.rules.specs.Phases.{matches as matchesOf};
-ghost use Rattle.matching.specs.Picking.{firstCandidate, InPorts, Takes, Shows};
-ghost use Rattle.matching.specs.Rounds.{firstFor, firstAmong, isServable, Lowered, Lows, Kept};
+ghost use Rattle.words.specs.Words.{withRecords};
+ghost use Rattle.matching.specs.Ready.{Orderly, Ready, Takeable};
+ghost use Rattle.matching.specs.Picking.{firstCandidate, Takes, Picked};
+ghost use Rattle.matching.specs.Rounds.{firstFor, firstAmong, isServable, lowered, Lows, Kept};
 ghost use Rattle.matching.specs.Transfer.{Writable, Written, Transferred};
 
 // The taken inputs and the taken outputs are two sets of ports.
-pub struct Taken {
-    pub inputs: u16,
-    pub outputs: u16,
+struct Taken {
+    inputs: u16,
+    outputs: u16,
 }
 
 // Of the waiting cells for an output, at inputs that are not taken, the oldest: a look at the heads.
-fn first_for(table: &[u32], queues: &[u16], inputs: u16, o: u32) -> Found
-    requires { ⌜ o < 16 ⌝ }
+fn first_for(table: &[u32], queues: &[u16], inputs: u16, o: Output) -> Found
+    requires { ⌜ o .0 < mostPorts ⌝ }
     requires { ⌜ Queues All (cellsOf (now table)) (now queues) ⌝ }
-    ensures { λ q. ⌜ q ≡ firstFor (has inputs) o (cellsOf (now (table .entry))) ⌝ }
+    ensures { λ q. ⌜ q ≡ firstFor (has inputs) (o .0) (cellsOf (now (table .entry))) ⌝ }
 {
     let mut found = Found::Nothing;
     let mut left = ports::except(queues::senders_for(queues, o), inputs);
     while left != 0 {
         let i = ports::lowest(left);
         left = ports::without(left, i);
-        found = table::older_finding(table, found, queues::head_of(queues, i, o));
+        found = table::older_finding(table, found, queues::head_of(queues, Input(i), o));
     }
     found
 }
 
 // Whether there is such a cell. The table is lent so that the contract can name it; the queues alone are read.
-fn is_servable(table: &[u32], queues: &[u16], inputs: u16, o: u32) -> bool
-    requires { ⌜ o < 16 ⌝ }
+fn is_servable(table: &[u32], queues: &[u16], inputs: u16, o: Output) -> bool
+    requires { ⌜ o .0 < mostPorts ⌝ }
     requires { ⌜ Queues All (cellsOf (now table)) (now queues) ⌝ }
-    ensures { λ q. ⌜ q ≡ isServable (has inputs) o (cellsOf (now (table .entry))) ⌝ }
+    ensures { λ q. ⌜ q ≡ isServable (has inputs) (o .0) (cellsOf (now (table .entry))) ⌝ }
 {
     ports::except(queues::senders_for(queues, o), inputs) != 0
 }
@@ -51,12 +57,12 @@ struct Lowest {
 }
 
 // The outputs with the lowest reading, once output o, whose reading is x, is among those looked at.
-fn lower_of(lowest: Lowest, o: u32, x: u32) -> Lowest
-    requires { ⌜ o < 16 ⌝ }
-    ensures { λ q. ⌜ Lowered x o (lowest .outputs) (lowest .reading) (q .outputs) (q .reading) ⌝ }
+fn lower_of(lowest: Lowest, o: Output, x: u32) -> Lowest
+    requires { ⌜ o .0 < mostPorts ⌝ }
+    ensures { λ q. ⌜ q ≡ lowered lowest (o .0) x ⌝ }
 {
     let fresh = Lowest {
-        outputs: ports::with(0, o),
+        outputs: ports::with(0, o.0),
         reading: x,
     };
     if lowest.outputs == 0 {
@@ -69,7 +75,7 @@ fn lower_of(lowest: Lowest, o: u32, x: u32) -> Lowest
         return lowest;
     }
     Lowest {
-        outputs: ports::with(lowest.outputs, o),
+        outputs: ports::with(lowest.outputs, o.0),
         reading: lowest.reading,
     }
 }
@@ -77,7 +83,7 @@ fn lower_of(lowest: Lowest, o: u32, x: u32) -> Lowest
 // Of the outputs that are not taken and can be served, those with the lowest reading.
 fn lowest_readings(table: &[u32], queues: &[u16], r: Reading, taken: Taken) -> u16
     requires { ⌜ Queues All (cellsOf (now table)) (now queues) ⌝ }
-    ensures { λ q. ⌜ Lows (r .counts) (has (taken .inputs)) (has (taken .outputs)) (cellsOf (now (table .entry))) q ⌝ }
+    ensures { λ q. ⌜ Lows (r .counts) taken (cellsOf (now (table .entry))) q ⌝ }
 {
     let mut lowest = Lowest {
         outputs: 0,
@@ -87,9 +93,9 @@ fn lowest_readings(table: &[u32], queues: &[u16], r: Reading, taken: Taken) -> u
     while left != 0 {
         let o = ports::lowest(left);
         left = ports::without(left, o);
-        if is_servable(table, queues, taken.inputs, o) {
+        if is_servable(table, queues, taken.inputs, Output(o)) {
             let at = o as usize;
-            lowest = lower_of(lowest, o, r.counts[at]);
+            lowest = lower_of(lowest, Output(o), r.counts[at]);
         }
     }
     lowest.outputs
@@ -105,7 +111,7 @@ fn first_among(table: &[u32], queues: &[u16], inputs: u16, outputs: u16) -> Foun
     while left != 0 {
         let o = ports::lowest(left);
         left = ports::without(left, o);
-        found = table::older_finding(table, found, first_for(table, queues, inputs, o));
+        found = table::older_finding(table, found, first_for(table, queues, inputs, Output(o)));
     }
     found
 }
@@ -121,9 +127,9 @@ struct Candidate {
 // them can be served. Only where none can are others looked for.
 fn first_candidate(table: &[u32], queues: &[u16], r: Reading, taken: Taken, lows: u16) -> Candidate
     requires { ⌜ Queues All (cellsOf (now table)) (now queues) ⌝ }
-    requires { ⌜ Kept (r .counts) (has (taken .inputs)) (has (taken .outputs)) (cellsOf (now table)) lows ⌝ }
+    requires { ⌜ Kept (r .counts) taken (cellsOf (now table)) lows ⌝ }
     ensures { λ q. ⌜ q .found ≡ firstCandidate (r .counts) (has (taken .inputs)) (has (taken .outputs)) (cellsOf (now (table .entry))) ⌝ }
-    ensures { λ q. ⌜ Kept (r .counts) (has (taken .inputs)) (has (taken .outputs)) (cellsOf (now (table .entry))) (q .lows) ⌝ }
+    ensures { λ q. ⌜ Kept (r .counts) taken (cellsOf (now (table .entry))) (q .lows) ⌝ }
 {
     let kept = ports::except(lows, taken.outputs);
     let found = first_among(table, queues, taken.inputs, kept);
@@ -144,22 +150,16 @@ fn first_candidate(table: &[u32], queues: &[u16], r: Reading, taken: Taken, lows
 fn take(
     table: &mut [u32],
     queues: &mut [u16],
-    served: &mut [u32; 16],
+    served: &mut [u32; PORT_COUNT],
     k: usize,
     taken: Taken,
 ) -> Taken
-    requires { ⌜ k < records (now table) ⌝ }
-    requires { ⌜ records (now table) ≤ 1024 ⌝ }
-    requires { ⌜ Queues All (cellsOf (now table)) (now queues) ⌝ }
-    requires { ⌜ nth (cellsOf (now table)) k .input .0 < 16 ⌝ }
-    requires { ⌜ nth (cellsOf (now table)) k .output .0 < 16 ⌝ }
-    ensures { λ q. ⌜ length (now (table .exit)) ≡ length (now (table .entry)) ⌝ }
-    ensures { λ q. ⌜ Queues All (cellsOf (now (table .exit))) (now (queues .exit)) ⌝ }
-    ensures { λ q. ⌜ Takes (cellsOf (now (table .entry))) taken (now (served .entry)) k (cellsOf (now (table .exit))) q (now (served .exit)) ⌝ }
+    requires { ⌜ Takeable (now table) (now queues) k ⌝ }
+    ensures { λ q. ⌜ Takes (now (table .entry)) taken (now (served .entry)) k (now (table .exit)) (now (queues .exit)) q (now (served .exit)) ⌝ }
 {
     let c = table::cell_at(table, k);
     table::set_place(table, k, 2);
-    queues::renew(table, queues, c.input.0, c.output.0);
+    queues::renew(table, queues, c.input, c.output);
     let o = c.output.0 as usize;
     served[o] = c.input.0;
     Taken {
@@ -172,18 +172,13 @@ fn take(
 fn pick(
     table: &mut [u32],
     queues: &mut [u16],
-    served: &mut [u32; 16],
+    served: &mut [u32; PORT_COUNT],
     r: Reading,
     ports: u32,
 ) -> Taken
-    requires { ⌜ ports ≤ 16 ⌝ }
-    requires { ⌜ records (now table) ≤ 1024 ⌝ }
-    requires { ⌜ InPorts ports (cellsOf (now table)) ⌝ }
-    requires { ⌜ Queues All (cellsOf (now table)) (now queues) ⌝ }
-    requires { ⌜ length (now served) ≡ 16 ⌝ }
-    ensures { λ q. ⌜ length (now (table .exit)) ≡ length (now (table .entry)) ⌝ }
-    ensures { λ q. ⌜ Queues All (cellsOf (now (table .exit))) (now (queues .exit)) ⌝ }
-    ensures { λ q. ⌜ Shows (cellsOf (now (table .entry))) (matchOf ports (r .counts) (cellsOf (now (table .entry)))) (cellsOf (now (table .exit))) q (now (served .exit)) ⌝ }
+    requires { ⌜ Ready ports (now table) (now queues) ⌝ }
+    requires { ⌜ length (now served) ≡ mostPorts ⌝ }
+    ensures { λ q. ⌜ Picked ports (r .counts) (now (table .entry)) (now (table .exit)) (now (queues .exit)) q (now (served .exit)) ⌝ }
 {
     let mut taken = Taken {
         inputs: 0,
@@ -205,10 +200,10 @@ fn pick(
 }
 
 // The match words: 1 + the input served at each taken output, lowest first; 0 at the others.
-fn write_words(words: &mut [u32], served: &[u32; 16], outputs: u16)
+fn write_words(words: &mut [u32], served: &[u32; PORT_COUNT], outputs: u16)
     requires { ⌜ Writable outputs (now served) (length (now words)) ⌝ }
     ensures { λ _. ⌜ length (now (words .exit)) ≡ length (now (words .entry)) ⌝ }
-    ensures { λ _. ⌜ Written outputs (now (served .entry)) (now (words .exit)) ⌝ }
+    ensures { λ _. ⌜ Written (has outputs) (now (served .entry)) (now (words .exit)) ⌝ }
 {
     table::clear(words);
     let mut left = outputs;
@@ -222,15 +217,11 @@ fn write_words(words: &mut [u32], served: &[u32; 16], outputs: u16)
 
 // One transfer phase, with its match words; answers how many cells moved.
 fn transfer(table: &mut [u32], queues: &mut [u16], words: &mut [u32], r: Reading, ports: u32) -> u32
-    requires { ⌜ ports ≤ 16 ⌝ }
+    requires { ⌜ Ready ports (now table) (now queues) ⌝ }
     requires { ⌜ length (now words) ≡ ports ⌝ }
-    requires { ⌜ records (now table) ≤ 1024 ⌝ }
-    requires { ⌜ InPorts ports (cellsOf (now table)) ⌝ }
-    requires { ⌜ Queues All (cellsOf (now table)) (now queues) ⌝ }
-    ensures { λ q. ⌜ Queues All (cellsOf (now (table .exit))) (now (queues .exit)) ⌝ }
-    ensures { λ q. ⌜ Transferred ports (r .counts) (now (table .entry)) (now (table .exit)) (now (words .exit)) q ⌝ }
+    ensures { λ q. ⌜ Transferred ports (r .counts) (now (table .entry)) (now (table .exit)) (now (queues .exit)) (now (words .exit)) q ⌝ }
 {
-    let mut served = [0u32; 16];
+    let mut served = [0u32; PORT_COUNT];
     let taken = pick(table, queues, &mut served, r, ports);
     write_words(words, &served, taken.outputs);
     ports::size(taken.outputs)
@@ -245,13 +236,9 @@ fn run_phases(
     ports: u32,
     speedup: u32,
 )
-    requires { ⌜ ports ≤ 16 ⌝ }
+    requires { ⌜ Ready ports (now table) (now queues) ⌝ }
     requires { ⌜ length (now matches) ≡ speedup * ports ⌝ }
-    requires { ⌜ InPorts ports (cellsOf (now table)) ⌝ }
-    requires { ⌜ records (now table) ≤ 1024 ⌝ }
-    requires { ⌜ Queues All (cellsOf (now table)) (now queues) ⌝ }
-    ensures { λ _. ⌜ length (now (table .exit)) ≡ length (now (table .entry)) ⌝ }
-    ensures { λ _. ⌜ cellsOf (now (table .exit)) ≡ phases ports (r .counts) (cellsOf (now (table .entry))) speedup ⌝ }
+    ensures { λ _. ⌜ now (table .exit) ≡ withRecords (now (table .entry)) (phases ports (r .counts) (cellsOf (now (table .entry))) speedup) ⌝ }
     ensures { λ _. ⌜ now (matches .exit) ≡ matchesOf ports (r .counts) (cellsOf (now (table .entry))) speedup ⌝ }
 {
     let n = ports as usize;
@@ -271,15 +258,12 @@ fn run_phases(
 
 // The transfer phases of a slot. The waiting cells are lined up once, for all of them.
 pub fn transfers(table: &mut [u32], matches: &mut [u32], r: Reading, ports: u32, speedup: u32)
-    requires { ⌜ ports ≤ 16 ⌝ }
+    requires { ⌜ Orderly ports (now table) ⌝ }
     requires { ⌜ length (now matches) ≡ speedup * ports ⌝ }
-    requires { ⌜ InPorts ports (cellsOf (now table)) ⌝ }
-    requires { ⌜ records (now table) ≤ 1024 ⌝ }
-    ensures { λ _. ⌜ length (now (table .exit)) ≡ length (now (table .entry)) ⌝ }
-    ensures { λ _. ⌜ cellsOf (now (table .exit)) ≡ phases ports (r .counts) (cellsOf (now (table .entry))) speedup ⌝ }
+    ensures { λ _. ⌜ now (table .exit) ≡ withRecords (now (table .entry)) (phases ports (r .counts) (cellsOf (now (table .entry))) speedup) ⌝ }
     ensures { λ _. ⌜ now (matches .exit) ≡ matchesOf ports (r .counts) (cellsOf (now (table .entry))) speedup ⌝ }
 {
-    let mut queues = [0u16; 1553];
+    let mut queues = [0u16; QUEUE_WORDS];
     queues::line_up(table, &mut queues);
     run_phases(table, &mut queues, matches, r, ports, speedup);
 }

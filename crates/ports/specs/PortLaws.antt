@@ -1,6 +1,6 @@
 -- The laws of sets of ports: what shifts, masks and sums of digits compute, how many ports are in a set, and that a set is what its members say.
 -- Assumes nothing.
-use mathlib.Core.Path.{_≡_, refl, sym, ap, _∙_, subst}
+use mathlib.Core.Path.{_≡_, refl, sym, ap, _∙_, subst, fun-ext}
 use mathlib.Core.Bool.{Bool, So, true, false, not, _&&_}
 use mathlib.Core.Logic.{_⊎_, inl, inr, ⊎-elim}
 use Prim.Native.Nat.{ℕ, zero, suc, _+_, _-_, _*_, _/_, _%_, _^_, _≤_, _<_, min, max, suc-le-suc}
@@ -13,9 +13,10 @@ use lib.Arith.{digits-mod, lt-one}
 use lib.Pow.{shr-shr, pow-lt}
 use lib.Bits.{bitOr, or-step, or-shr, or-zero-r, bitAnd, and-mask, and-step, and-shr, bitXor, differ, xor-step, xor-shr}
 use lib.Count.{ones, ones-step, trailingZeros, under}
-use Rattle.laws.specs.Tests.{No, passes, refuted, to-no}
+use Rattle.laws.specs.Tests.{No, passes, refuted, to-no, both, denied}
 use Rattle.laws.specs.Count.{any, any→, →any, bit, count, count-zero, count-suc}
 use Rattle.laws.specs.Least.{Least, lowest, lowest-hit, lowest-is, lowest-nothing, least-at}
+use Rattle.laws.specs.SetWalk.{nobody, also, also-is, Walked, walk-more, walk-all}
 use Rattle.laws.specs.declared.Found.the-variants.{At}
 use Rattle.ports.specs.Ports.{maskPorts, digit, has, withPort, withoutPort, exceptPorts, Added, Removed, Except, Lowest, Visits}
 
@@ -212,6 +213,14 @@ excepted {m} {k} e = rw e (record {
         (digit-cases (λ (e : ℕ). eqb (min 0 e) 1 ≡ false) refl refl)
         (digit-cases (λ (e : ℕ). eqb (differ 1 (min 1 e)) 1 ≡ not (eqb e 1)) refl refl)
 
+-- a member is in the one set and not in the other
+module _ {m k r : ℕ} (e : Except m k r) (q : ℕ) (h : So (has r q)) where
+  pub except-in : So (has m q)
+  except-in = both (has m q) _ (sym (e .each q) ∙ h) .0
+
+  pub except-out : No (has k q)
+  except-out = denied _ (both (has m q) _ (sym (e .each q) ∙ h) .1)
+
 -- How many -------------------------------------------------------------------------------------
 
 count-low : (n m : ℕ) → count (has m) (suc n) ≡ m % 2 + count (has (m / 2)) n
@@ -309,3 +318,21 @@ added-kept {m} {p} {r} d q h = ⊎-elim (λ x. ap (has r) (eqb-true q p x) ∙ d
 -- of a set with one added, a member is that one or was in
 pub added-split : {m p r : ℕ} → Added m p r → (q : ℕ) → So (has r q) → (q ≡ p) ⊎ So (has m q)
 added-split {m} {p} {r} d q h = ⊎-elim (λ x. inl (eqb-true q p x)) (λ x. inr (sym (d .others q (eqb-false q p x)) ∙ h)) (passes (eqb q p))
+
+-- Walks over a set -------------------------------------------------------------------------------
+
+pub has-nobody : has 0 ≡ nobody
+has-nobody = fun-ext has-none
+
+pub added-also : {m p r : ℕ} → Added m p r → has r ≡ also (has m) p
+added-also {m} {p} {r} d = also-is (has m) p (has r) (d .inside) (d .others)
+
+module _ {S : Type 0} {P : (ℕ → Bool) → S → Type 0} {members : ℕ → Bool} where
+  -- one turn: the lowest that is left is visited
+  pub walk-visit : {left o rest : ℕ} {s t : S} → Visits left o rest → Walked P members (has left) s → ((v : ℕ → Bool) → P v s → P (also v o) t)
+      → Walked P members (has rest) t
+  walk-visit {left} {o} {rest} d w step = walk-more o w (d .lowest .inside) (d .removed .outside) (d .removed .others) step
+
+  -- none is left
+  pub walk-done : {left : ℕ} {s : S} → left ≡ 0 → Walked P members (has left) s → P members s
+  walk-done e w = walk-all (λ q. ap (λ (m : ℕ). has m q) e ∙ has-none q) w

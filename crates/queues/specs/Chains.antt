@@ -9,19 +9,24 @@ use native.Mathlib.Omega.{arith}
 use native.Mathlib.Numerals.{add-one}
 use borrow.Author.Tests.{eqb-true, eqb-false, ltb-true, ltb-false, le-ltb}
 use lib.Dec.{eqb, ltb}
-use lib.ListN.{length, getD, set, length-set, replicate, getD-replicate}
+use lib.ListN.{length, getD, set, length-set}
 use lib.Seq.{getD-set-same, getD-set-other}
 use Rattle.laws.specs.Tests.{No, passes, refuted, both, join, deny, denied, cond-true, cond-false, eqb-self}
 use Rattle.laws.specs.Walk.{below-suc}
 use Rattle.laws.specs.Order.{ranks-on}
-use Rattle.laws.specs.First.{First, firstFound, first-join, first-least, first-alike}
+use Rattle.laws.specs.Least.{Below}
+use Rattle.laws.specs.First.{First, firstFound, first-join, first-least, first-alike, first-below}
 use Rattle.laws.specs.declared.Found.{Found}
 use Rattle.laws.specs.declared.Found.the-variants.{At, Nothing}
+use Rattle.rules.specs.declared.Input.{Input}
+use Rattle.rules.specs.declared.Output.{Output}
 use Rattle.rules.specs.declared.Cell.{Cell}
-use Rattle.rules.specs.Cells.{nth, isWaiting, older}
+use Rattle.rules.specs.Cells.{mostPorts, mostRecords, nth, isWaiting, older, records, cellsOf}
 use Rattle.ideal.specs.Cells.{waiting→, older-ranks}
+use Rattle.words.specs.Words.{length-cellsOf}
 use Rattle.table.specs.Table.{olderAt}
-use Rattle.queues.specs.Queues.{pair, pairOf, queueWords, topWord, nextWord, waitsFor, waits→, →waits, headBelow, headOf, Link, Chains, Queues, waitingAt, classOf}
+use Rattle.queues.specs.Layout.{pairs, tops, links, queueWords, pair, pairOf, topWord, nextWord, noQueues, zero-word}
+use Rattle.queues.specs.Queues.{waitsFor, waits→, →waits, headBelow, headOf, Link, Chains, But, Queues, waitingAt, classOf, linked, Stale}
 
 -- a record of another pair is no member
 link-on : {cl : ℕ → ℕ} {p k v : ℕ} → Link cl p k v → (cl k ≡ p → ⊥) → Link cl p (k + 1) v
@@ -38,67 +43,65 @@ link-here {cl} {p} {k} e = record {
   highest = λ j a b. absurd (omega arith);
 }
 
-pub no-chains : (cl : ℕ → ℕ) → Chains cl 0 (replicate queueWords 0)
+pub no-chains : (cl : ℕ → ℕ) → Chains cl 0 noQueues
 no-chains cl = record {
-  tops = λ p l. record {
-    within = rw (zeros (256 + p) (omega arith)) (omega arith);
-    member = λ k e. absurd (let z : _≡_ {A = ℕ} (topWord (replicate queueWords 0) p) 0 = zeros (256 + p) (omega arith) in omega arith);
-    highest = λ j a b. absurd (omega arith);
-  };
+  tops = λ p l.
+      let z : topWord noQueues p ≡ 0 = zero-word (tops + p) (omega arith) in
+      record { within = rw z (omega arith); member = λ k e. absurd (omega (arith, z)); highest = λ j a b. absurd (omega arith) };
   nexts = λ k l. absurd (omega arith);
 }
-  where
-    zeros : (i : ℕ) → i < queueWords → _≡_ {A = ℕ} (getD (replicate queueWords 0) i 0) 0
-    zeros i l = getD-replicate queueWords i 0 0 l
 
 -- record k is of no pair
-pub chains-skip : {cl : ℕ → ℕ} {k : ℕ} {qs : List ℕ} → Chains cl k qs → cl k ≡ 256 → Chains cl (k + 1) qs
+pub chains-skip : {cl : ℕ → ℕ} {k : ℕ} {qs : List ℕ} → Chains cl k qs → cl k ≡ pairs → Chains cl (k + 1) qs
 chains-skip {cl} {k} {qs} h e = record {
   tops = λ p l. link-on (h .tops p l) (λ q. omega (arith, q, e));
-  nexts = rw (add-one k) (below-suc (λ (j : ℕ). cl j < 256 → Link cl (cl j) j (nextWord qs j)) k (h .nexts) (λ l. absurd (omega (arith, e))));
+  nexts =
+      rw (add-one k)
+      (below-suc (λ (j : ℕ). cl j < pairs → Link cl (cl j) j (nextWord qs j)) k (h .nexts) (λ l. absurd (omega (arith, e))));
 }
 
 -- record k is of pair p
-module _ {cl : ℕ → ℕ} {k : ℕ} {qs : List ℕ} (h : Chains cl k qs) (long : length qs ≡ queueWords) (p : ℕ) (small : p < 256) (fits : k < 1024) (e : cl k ≡ p) where
-  linked : List ℕ
-  linked = set (set qs (512 + k) (topWord qs p)) (256 + p) (suc k)
-
-  top-new : topWord linked p ≡ suc k
+module _ (qs : List ℕ) (long : length qs ≡ queueWords) (p : ℕ) (small : p < pairs) (k : ℕ) (fits : k < mostRecords) where
+  pub linked-long : length (linked qs p k) ≡ queueWords
   unfolding linked
-  top-new = getD-set-same (set qs (512 + k) (topWord qs p)) (256 + p) (suc k) 0 (rw (length-set qs (512 + k) (topWord qs p)) (omega arith))
+  linked-long = length-set (set qs (links + k) (topWord qs p)) (tops + p) (suc k) ∙ length-set qs (links + k) (topWord qs p) ∙ long
 
-  top-old : (q : ℕ) → q < 256 → (q ≡ p → ⊥) → topWord linked q ≡ topWord qs q
+  -- another word
+  pub linked-other : (j : ℕ) → (j ≡ links + k → ⊥) → (j ≡ tops + p → ⊥) → getD (linked qs p k) j 0 ≡ getD qs j 0
   unfolding linked
-  top-old q l ne =
-      getD-set-other (set qs (512 + k) (topWord qs p)) (256 + p) (256 + q) (suc k) 0 (λ x. ne (omega arith))
-      ∙ getD-set-other qs (512 + k) (256 + q) (topWord qs p) 0 (omega arith)
+  linked-other j a b = getD-set-other (set qs (links + k) (topWord qs p)) (tops + p) j (suc k) 0 b ∙ getD-set-other qs (links + k) j (topWord qs p) 0 a
 
-  next-new : nextWord linked k ≡ topWord qs p
+  top-new : topWord (linked qs p k) p ≡ suc k
+  unfolding linked
+  top-new = getD-set-same (set qs (links + k) (topWord qs p)) (tops + p) (suc k) 0 (rw (length-set qs (links + k) (topWord qs p)) (omega arith))
+
+  next-new : nextWord (linked qs p k) k ≡ topWord qs p
   unfolding linked
   next-new =
-      getD-set-other (set qs (512 + k) (topWord qs p)) (256 + p) (512 + k) (suc k) 0 (omega arith)
-      ∙ getD-set-same qs (512 + k) (topWord qs p) 0 (omega arith)
+      getD-set-other (set qs (links + k) (topWord qs p)) (tops + p) (links + k) (suc k) 0 (omega arith)
+      ∙ getD-set-same qs (links + k) (topWord qs p) 0 (omega arith)
 
-  next-old : (j : ℕ) → j < k → nextWord linked j ≡ nextWord qs j
-  unfolding linked
-  next-old j l =
-      getD-set-other (set qs (512 + k) (topWord qs p)) (256 + p) (512 + j) (suc k) 0 (omega arith)
-      ∙ getD-set-other qs (512 + k) (512 + j) (topWord qs p) 0 (omega arith)
-
-  pub chains-link : Chains cl (k + 1) (set (set qs (512 + k) (topWord qs p)) (256 + p) (suc k))
-  unfolding linked
-  chains-link = record {
-    tops = λ q l. ⊎-elim (λ x. let b : q ≡ p = eqb-true q p x in here q b) (λ x. let n = eqb-false q p x in subst (Link cl q (k + 1)) (sym (top-old q l n)) (link-on (h .tops q l) (λ y. n (sym y ∙ e)))) (passes (eqb q p));
-    nexts = rw (add-one k) (below-suc (λ (j : ℕ). cl j < 256 → Link cl (cl j) j (nextWord linked j)) k
-        (λ j l m. subst (Link cl (cl j) j) (sym (next-old j l)) (h .nexts j l m))
+  pub chains-link : {cl : ℕ → ℕ} → Chains cl k qs → cl k ≡ p → Chains cl (k + 1) (linked qs p k)
+  chains-link {cl} h e = record {
+    tops = λ q l. ⊎-elim (λ x. here q (eqb-true q p x)) (λ x. there q l (eqb-false q p x)) (passes (eqb q p));
+    nexts =
+        rw (add-one k)
+        (below-suc (λ (j : ℕ). cl j < pairs → Link cl (cl j) j (nextWord (linked qs p k) j)) k
+        (λ j l m. subst (Link cl (cl j) j) (sym (linked-other (links + j) (omega arith) (omega arith))) (h .nexts j l m))
         (λ m. subst (Link cl (cl k) k) (sym next-new) (rw e (h .tops p small))));
   }
     where
-      here : (q : ℕ) → q ≡ p → Link cl q (k + 1) (topWord linked q)
+      here : (q : ℕ) → q ≡ p → Link cl q (k + 1) (topWord (linked qs p k) q)
       here q b = rw b (subst (Link cl p (k + 1)) (sym top-new) (link-here e))
 
+      there : (q : ℕ) → q < pairs → (q ≡ p → ⊥) → Link cl q (k + 1) (topWord (linked qs p k) q)
+      there q l n =
+          subst (Link cl q (k + 1)) (sym (linked-other (tops + q) (omega arith) (λ x. n (omega arith))))
+          (link-on (h .tops q l) (λ y. n (sym y ∙ e)))
+
 -- other words of the list do not matter
-pub chains-kept : {cl : ℕ → ℕ} {n : ℕ} {qs ns : List ℕ} → n ≤ 1024 → ((p : ℕ) → p < 256 → topWord ns p ≡ topWord qs p) → ((k : ℕ) → k < 1024 → nextWord ns k ≡ nextWord qs k)
+pub chains-kept : {cl : ℕ → ℕ} {n : ℕ} {qs ns : List ℕ} → n ≤ mostRecords
+    → ((p : ℕ) → p < pairs → topWord ns p ≡ topWord qs p) → ((k : ℕ) → k < mostRecords → nextWord ns k ≡ nextWord qs k)
     → Chains cl n qs → Chains cl n ns
 chains-kept {cl} {n} few top next h = record {
   tops = λ p l. subst (Link cl p n) (sym (top p l)) (h .tops p l);
@@ -109,21 +112,43 @@ chains-kept {cl} {n} few top next h = record {
 
 pub class-waiting : (cs : List Cell) (k : ℕ) → So (isWaiting (nth cs k)) → classOf cs k ≡ pairOf (nth cs k)
 unfolding classOf
-class-waiting cs k h = cond-true (isWaiting (nth cs k)) (pairOf (nth cs k)) 256 h
+class-waiting cs k h = cond-true (isWaiting (nth cs k)) (pairOf (nth cs k)) pairs h
 
-pub class-other : (cs : List Cell) (k : ℕ) → No (isWaiting (nth cs k)) → classOf cs k ≡ 256
+pub class-other : (cs : List Cell) (k : ℕ) → No (isWaiting (nth cs k)) → classOf cs k ≡ pairs
 unfolding classOf
-class-other cs k h = cond-false (isWaiting (nth cs k)) (pairOf (nth cs k)) 256 h
+class-other cs k h = cond-false (isWaiting (nth cs k)) (pairOf (nth cs k)) pairs h
 
 -- Down a chain -----------------------------------------------------------------------------------
 
 -- found is the oldest waiting cell of the pair from the record that v names up; v names one of the pair, or none
-pub record Looked (cl : ℕ → ℕ) (cs : List Cell) (i o v : ℕ) (found : Found) : Type 0 where
-  pub within : v ≤ length cs
+pub record Looked (cl : ℕ → ℕ) (table : List ℕ) (i o v : ℕ) (found : Found) : Type 0 where
+  pub within : v ≤ records table
   pub member : (k : ℕ) → v ≡ suc k → cl k ≡ pair i o
-  pub first : First (λ j. not (ltb j v) && waitsFor i o (nth cs j)) (olderAt cs) (length cs) found
+  pub first : First (λ j. not (ltb j v) && waitsFor i o (nth (cellsOf table) j)) (olderAt (cellsOf table)) (length (cellsOf table)) found
 
-module _ {P : ℕ → ℕ → Type 0} {cs : List Cell} {qs : List ℕ} (q : Queues P cs qs) (i o : ℕ) (small : i < 16) (less : o < 16) where
+pub looked-below : {cl : ℕ → ℕ} {table : List ℕ} {i o v : ℕ} {found : Found} → Looked cl table i o v found → Below (records table) found
+looked-below {cl} {table} {i} {o} {v} {found} s =
+    rw (length-cellsOf table) at (first-below (λ j. not (ltb j v) && waitsFor i o (nth (cellsOf table) j)) (olderAt (cellsOf table)) _ found (s .first))
+
+module _ {table qs : List ℕ} {input : Input} {output : Output} (stale : Stale table qs input output) where
+  abbrev cs : List Cell
+  cs = cellsOf table
+
+  abbrev i : ℕ
+  i = input .0
+
+  abbrev o : ℕ
+  o = output .0
+
+  abbrev q : Queues (But i o) cs qs
+  q = stale .queues
+
+  small : i < mostPorts
+  small = stale .ports .input
+
+  less : o < mostPorts
+  less = stale .ports .output
+
   -- a waiting cell of the pair is of its class, and the other way round
   of-class : (j : ℕ) → j < length cs → So (waitsFor i o (nth cs j)) → q .cl j ≡ pair i o
   of-class j l h = let w = waits→ i o (nth cs j) h in q .covers j l (w .0) ∙ omega (arith, w .1, w .2)
@@ -132,23 +157,25 @@ module _ {P : ℕ → ℕ → Type 0} {cs : List Cell} {qs : List ℕ} (q : Queu
   in-class j l e h =
       let x = q .ports .outputs j l (waiting→ _ h) in
       let y = q .covers j l h in
-      →waits i o (nth cs j) h (omega (arith, x, y, e)) (omega (arith, x, y, e))
+      →waits i o (nth cs j) h (omega (arith, x, y, e, less)) (omega (arith, x, y, e, less))
 
-  pub looked-top : Looked (q .cl) cs i o (topWord qs (pair i o)) Nothing
-  looked-top =
-      let t = q .chains .tops (pair i o) (omega arith) in
-      record {
-        within = t .within;
+  pub looked-top : {v : ℕ} → v ≡ topWord qs (pair (input .0) (output .0)) → Looked (stale .queues .cl) table (input .0) (output .0) v Nothing
+  looked-top e =
+      let t = q .chains .tops (pair i o) (omega (arith, small, less)) in
+      rw e (record {
+        within = rw (← length-cellsOf table) (t .within);
         member = t .member;
-        first = λ j l h. let b = both (not (ltb j (topWord qs (pair i o)))) _ h in t .highest j (ltb-false j _ (denied _ (b .0))) l (of-class j l (b .1));
-      }
+        first = λ j l h.
+            let b = both (not (ltb j (topWord qs (pair i o)))) _ h in
+            t .highest j (ltb-false j _ (denied _ (b .0))) l (of-class j l (b .1));
+      })
 
-  module _ (k : ℕ) (found : Found) (s : Looked (q .cl) cs i o (suc k) found) where
+  module _ (k : ℕ) (found : Found) (s : Looked (stale .queues .cl) table (input .0) (output .0) (suc k) found) where
     here : k < length cs
-    here = s .within
+    here = rw (length-cellsOf table) (s .within)
 
     next : Link (q .cl) (q .cl k) k (nextWord qs k)
-    next = q .chains .nexts k here (rw (s .member k refl) (omega arith))
+    next = q .chains .nexts k here (rw (s .member k refl) (omega (arith, small, less)))
 
     -- record k by itself
     alone : First (λ j. eqb j k && waitsFor i o (nth cs j)) (olderAt cs) (length cs) (waitingAt cs k)
@@ -166,11 +193,11 @@ module _ {P : ℕ → ℕ → Type 0} {cs : List Cell} {qs : List ℕ} (q : Queu
             let y : j ≡ k = eqb-true j k (x .0) in
             refuted (waits→ i o (nth cs j) (x .1) .0) (ap (λ (z : ℕ). isWaiting (nth cs z)) y ∙ e)
 
-    pub looked-next : Looked (q .cl) cs i o (nextWord qs k) (firstFound (olderAt cs) found (waitingAt cs k))
+    looked-next : Looked (q .cl) table i o (nextWord qs k) (firstFound (olderAt cs) found (waitingAt cs k))
     looked-next =
         let m = next in
         record {
-          within = omega (arith, m .within, here);
+          within = omega (arith, m .within, s .within);
           member = λ j e. m .member j e ∙ s .member k refl;
           first =
               first-join (olderAt cs) (ranks-on older older-ranks (nth cs)) _ _ _ (length cs)
@@ -192,12 +219,12 @@ module _ {P : ℕ → ℕ → Type 0} {cs : List Cell} {qs : List ℕ} (q : Queu
             (passes (eqb j k))
 
   -- the same, in the words of the code
-  pub looked-on : (v k : ℕ) (found : Found) → v ≡ suc k → Looked (q .cl) cs i o v found
-      → (nextWord qs k < v) × Looked (q .cl) cs i o (nextWord qs k) (firstFound (olderAt cs) found (waitingAt cs k))
+  pub looked-on : (v k : ℕ) (found : Found) → v ≡ suc k → Looked (stale .queues .cl) table (input .0) (output .0) v found
+      → (nextWord qs k < v) × Looked (stale .queues .cl) table (input .0) (output .0) (nextWord qs k) (firstFound (olderAt (cellsOf table)) found (waitingAt (cellsOf table) k))
   looked-on v k found e s = let u = rw e at s in (omega (arith, next k found u .within, e), looked-next k found u)
 
-  pub looked-all : (found : Found) → Looked (q .cl) cs i o 0 found → found ≡ headOf cs i o
+  pub looked-all : (v : ℕ) (found : Found) → v ≡ 0 → Looked (stale .queues .cl) table (input .0) (output .0) v found → found ≡ headOf (cellsOf table) (input .0) (output .0)
   unfolding headBelow
-  looked-all found s =
+  looked-all v found z s =
       first-least (olderAt cs) (ranks-on older older-ranks (nth cs)) (λ j. waitsFor i o (nth cs j)) (length cs) found
-      (first-alike _ _ _ _ (length cs) (λ j l. rw (le-ltb j 0 (omega arith))) (λ j k a b x y. refl) found (s .first))
+      (first-alike _ _ _ _ (length cs) (λ j l. rw (le-ltb j v (omega arith))) (λ j k a b x y. refl) found (s .first))

@@ -1,3 +1,4 @@
+pub mod Layout
 pub mod Queues
 pub mod Chains
 pub mod Heads

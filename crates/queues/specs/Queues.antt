@@ -1,70 +1,28 @@
--- The waiting cells by pair of input and output, in one list of words: a chain of records for each pair, its head, and the inputs that have a cell
--- for an output.
+-- The waiting cells by pair of input and output: what the words of the list say of a table, how they come to say it, and what the calls ask for.
 -- Assumes nothing.
-use Prim.Native.Nat.{ℕ, zero, suc, _+_, _-_, _*_, _<_, _≤_}
-use mathlib.Core.Path.{_≡_, refl, ap}
-use mathlib.Core.Bool.{Bool, So, true, false, cond, _&&_}
+use Prim.Native.Nat.{ℕ, suc, _+_, _<_, _≤_}
+use mathlib.Core.Path.{_≡_}
+use mathlib.Core.Bool.{Bool, So, cond, _&&_}
 use mathlib.Core.List.{List}
-use native.Mathlib.Omega.{arith}
 use lib.Dec.{eqb}
 use borrow.Author.Tests.{eqb-true, eq-eqb}
-use lib.ListN.{length, getD}
+use lib.ListN.{length, set}
 use Rattle.laws.specs.Tests.{both, join}
+use Rattle.laws.specs.Walk.{over}
 use Rattle.laws.specs.Least.{least}
+use Rattle.laws.specs.First.{firstFound}
 use Rattle.laws.specs.declared.Found.{Found}
 use Rattle.laws.specs.declared.Found.the-variants.{At, Nothing}
-use Rattle.ports.specs.Ports.{has}
+use Rattle.ports.specs.Ports.{has, withPort, exceptPorts}
+use Rattle.rules.specs.declared.Input.{Input}
+use Rattle.rules.specs.declared.Output.{Output}
 use Rattle.rules.specs.declared.Cell.{Cell}
-use Rattle.rules.specs.Cells.{nth, isWaiting}
+use Rattle.rules.specs.Cells.{mostPorts, mostRecords, nth, isWaiting, records, cellsOf}
+use Rattle.ideal.specs.InPorts.{InPorts}
 use Rattle.table.specs.Table.{olderAt}
+use Rattle.queues.specs.Layout.{pairs, tops, links, senderSets, wantedSet, queueWords, pair, pairOf, headWord, topWord, nextWord, senders, wanted, noQueues, nameOf, named, isFound}
 
--- where the words of a pair stand
-abbrev pub pair : ℕ → ℕ → ℕ
-pair i o = i * 16 + o
-
-abbrev pub pairOf : Cell → ℕ
-pairOf c = pair (c .input .0) (c .output .0)
-
--- a record is named by its number + 1; 0 names none
-abbrev pub nameOf : Found → ℕ
-nameOf (At k) = suc k
-nameOf Nothing = 0
-
-abbrev pub named : ℕ → Found
-named zero = Nothing
-named (suc k) = At k
-
-pub named-name : (x : Found) → named (nameOf x) ≡ x
-named-name (At k) = refl
-named-name Nothing = refl
-
-pub named-word : (w : ℕ) → (w ≡ 0 → ⊥) → At (w - 1) ≡ named w
-named-word zero h = absurd (h refl)
-named-word (suc k) h = ap At (omega arith)
-
-abbrev pub isFound : Found → Bool
-isFound (At k) = true
-isFound Nothing = false
-
--- The list: 256 heads, 256 tops of chains, for each of 1,024 records the next lower one of its chain, for each of 16 outputs a set of inputs, and
--- a set of outputs.
-abbrev pub queueWords : ℕ
-queueWords = 1553
-
-abbrev pub headWord : List ℕ → ℕ → ℕ → ℕ
-headWord qs i o = getD qs (pair i o) 0
-
-abbrev pub topWord : List ℕ → ℕ → ℕ
-topWord qs p = getD qs (256 + p) 0
-
-abbrev pub nextWord : List ℕ → ℕ → ℕ
-nextWord qs k = getD qs (512 + k) 0
-
-abbrev pub senders : List ℕ → ℕ → ℕ
-senders qs o = getD qs (1536 + o) 0
-
-abbrev pub wanted : List ℕ → ℕ
-wanted qs = getD qs 1552 0
+-- What the words say of a table ------------------------------------------------------------------
 
 -- a waiting cell of input i for output o
 unfoldable pub waitsFor : ℕ → ℕ → Cell → Bool
@@ -94,16 +52,16 @@ pub record Link (cl : ℕ → ℕ) (p b v : ℕ) : Type 0 where
   pub member : (k : ℕ) → v ≡ suc k → cl k ≡ p
   pub highest : (j : ℕ) → v ≤ j → j < b → cl j ≡ p → ⊥
 
--- the chains of the first n records; what is of no pair has a number from 256 on
+-- the chains of the first n records; what is of no pair has a number from `pairs` on
 pub record Chains (cl : ℕ → ℕ) (n : ℕ) (qs : List ℕ) : Type 0 where
-  pub tops : (p : ℕ) → p < 256 → Link cl p n (topWord qs p)
-  pub nexts : (k : ℕ) → k < n → cl k < 256 → Link cl (cl k) k (nextWord qs k)
+  pub tops : (p : ℕ) → p < pairs → Link cl p n (topWord qs p)
+  pub nexts : (k : ℕ) → k < n → cl k < pairs → Link cl (cl k) k (nextWord qs k)
 
 -- the heads of the first n records, for the pairs that P names
 pub record Heads (P : ℕ → ℕ → Type 0) (cs : List Cell) (n : ℕ) (qs : List ℕ) : Type 0 where
-  pub head : (i o : ℕ) → i < 16 → o < 16 → P i o → headWord qs i o ≡ nameOf (headBelow cs n i o)
-  pub sends : (i o : ℕ) → i < 16 → o < 16 → P i o → has (senders qs o) i ≡ isFound (headBelow cs n i o)
-  pub wants : (i o : ℕ) → i < 16 → o < 16 → P i o → So (isFound (headBelow cs n i o)) → So (has (wanted qs) o)
+  pub head : (i o : ℕ) → i < mostPorts → o < mostPorts → P i o → headWord qs i o ≡ nameOf (headBelow cs n i o)
+  pub sends : (i o : ℕ) → i < mostPorts → o < mostPorts → P i o → has (senders qs o) i ≡ isFound (headBelow cs n i o)
+  pub wants : (i o : ℕ) → i < mostPorts → o < mostPorts → P i o → So (isFound (headBelow cs n i o)) → So (has (wanted qs) o)
 
 -- every pair, and every pair but one
 abbrev pub All : ℕ → ℕ → Type 0
@@ -112,36 +70,84 @@ All i o = Unit {0}
 abbrev pub But : ℕ → ℕ → ℕ → ℕ → Type 0
 But a b i o = pair i o ≡ pair a b → ⊥
 
--- every waiting cell's ports are below n
-pub record InPorts (n : ℕ) (cs : List Cell) : Type 0 where
-  pub inputs : (k : ℕ) → k < length cs → nth cs k .place ≡ 1 → nth cs k .input .0 < n
-  pub outputs : (k : ℕ) → k < length cs → nth cs k .place ≡ 1 → nth cs k .output .0 < n
-
 -- a table's queues; the pairs are those of a table whose waiting cells all of cs were among
 pub record Queues (P : ℕ → ℕ → Type 0) (cs : List Cell) (qs : List ℕ) : Type 0 where
   pub cl : ℕ → ℕ
   pub long : length qs ≡ queueWords
-  pub ports : InPorts 16 cs
+  pub ports : InPorts mostPorts cs
   pub chains : Chains cl (length cs) qs
   pub covers : (k : ℕ) → k < length cs → So (isWaiting (nth cs k)) → cl k ≡ pairOf (nth cs k)
   pub heads : Heads P cs (length cs) qs
+
+-- How they come to say it ------------------------------------------------------------------------
 
 -- record k, where it waits
 unfoldable pub waitingAt : List Cell → ℕ → Found
 waitingAt cs k = cond (isWaiting (nth cs k)) (At k) Nothing
 
--- a waiting cell's pair; 256 for any other
+-- a waiting cell's pair; `pairs` for any other
 unfoldable pub classOf : List Cell → ℕ → ℕ
-classOf cs k = cond (isWaiting (nth cs k)) (pairOf (nth cs k)) 256
+classOf cs k = cond (isWaiting (nth cs k)) (pairOf (nth cs k)) pairs
 
--- qs become ns by a head of a pair, x
-pub record HeadSet (qs : List ℕ) (i o : ℕ) (x : Found) (ns : List ℕ) : Type 0 where
-  pub long : length ns ≡ length qs
-  pub head : headWord ns i o ≡ nameOf x
-  pub sends : has (senders ns o) i ≡ isFound x
-  pub heads : (a b : ℕ) → a < 16 → b < 16 → But i o a b → headWord ns a b ≡ headWord qs a b
-  pub others : (a b : ℕ) → a < 16 → b < 16 → But i o a b → has (senders ns b) a ≡ has (senders qs b) a
-  pub wants : So (isFound x) → So (has (wanted ns) o)
-  pub kept : (b : ℕ) → So (has (wanted qs) b) → So (has (wanted ns) b)
-  pub top : (p : ℕ) → p < 256 → topWord ns p ≡ topWord qs p
-  pub next : (k : ℕ) → k < 1024 → nextWord ns k ≡ nextWord qs k
+-- record k becomes the top of the chain of pair p
+unfoldable pub linked : List ℕ → ℕ → ℕ → List ℕ
+linked qs p k = set (set qs (links + k) (topWord qs p)) (tops + p) (suc k)
+
+-- a pair gets another head, or none; an output that once was wanted stays so
+unfoldable pub headSet : List ℕ → ℕ → ℕ → Found → List ℕ
+headSet qs i o (At k) = set (set (set qs (pair i o) (suc k)) (senderSets + o) (withPort (senders qs o) i)) wantedSet (withPort (wanted qs) o)
+headSet qs i o Nothing = set (set qs (pair i o) 0) (senderSets + o) (exceptPorts (senders qs o) (withPort 0 i))
+
+-- Record k joins: it becomes the top of its pair's chain, is compared with the head of its pair, and the older is the head.
+abbrev pub chained : List Cell → ℕ → List ℕ → List ℕ
+chained cs k qs = linked qs (pairOf (nth cs k)) k
+
+abbrev pub oldHead : List Cell → ℕ → List ℕ → Found
+oldHead cs k qs = named (headWord qs (nth cs k .input .0) (nth cs k .output .0))
+
+abbrev pub newHead : List Cell → ℕ → List ℕ → Found
+newHead cs k qs = firstFound (olderAt cs) (oldHead cs k qs) (waitingAt cs k)
+
+unfoldable pub compared : List Cell → ℕ → List ℕ → List ℕ
+compared cs k qs = headSet qs (nth cs k .input .0) (nth cs k .output .0) (newHead cs k qs)
+
+-- where it waits
+unfoldable pub joined : List Cell → ℕ → List ℕ → List ℕ
+joined cs k qs = cond (isWaiting (nth cs k)) (compared cs k (chained cs k qs)) qs
+
+-- the first n records have joined, and all
+unfoldable pub linedTo : List Cell → ℕ → List ℕ
+linedTo cs n = over (joined cs) noQueues n
+
+abbrev pub linedUp : List Cell → List ℕ
+linedUp cs = linedTo cs (length cs)
+
+-- What the calls ask for -------------------------------------------------------------------------
+
+-- an input and an output that there are
+pub record Ports (i : Input) (o : Output) : Type 0 where
+  pub input : i .0 < mostPorts
+  pub output : o .0 < mostPorts
+
+-- a table that can be lined up: its records have names, its waiting cells ports that there are
+pub record Lineable (table : List ℕ) : Type 0 where
+  pub few : records table ≤ mostRecords
+  pub ports : InPorts mostPorts (cellsOf table)
+
+-- the words say of the first n records what they say of a table
+pub record LinedTo (cs : List Cell) (n : ℕ) (qs : List ℕ) : Type 0 where
+  pub long : length qs ≡ queueWords
+  pub chains : Chains (classOf cs) n qs
+  pub heads : Heads All cs n qs
+
+-- record k can join: the queues are those of the records below it
+pub record Joinable (table : List ℕ) (k : ℕ) (qs : List ℕ) : Type 0 where
+  pub inside : k < records table
+  pub lineable : Lineable table
+  pub below : LinedTo (cellsOf table) k qs
+
+-- the head of one pair is no longer known; the others stand
+pub record Stale (table qs : List ℕ) (i : Input) (o : Output) : Type 0 where
+  pub few : records table ≤ mostRecords
+  pub ports : Ports i o
+  pub queues : Queues (But (i .0) (o .0)) (cellsOf table) qs

@@ -8,8 +8,8 @@ ghost use Rattle.rules.specs.Answers.{arrivalWidth, exhaledWidth, live};
 ghost use Rattle.rules.specs.Cells.{mostPorts, mostRecords, slotOf, records, cellsOf, fit};
 ghost use Rattle.rules.specs.Phases.{inhale, readings, phases, exhale, exhaled};
 ghost use Rattle.rules.specs.Phases.{matches as matchesOf};
-ghost use Rattle.words.specs.Words.{changed};
-ghost use Rattle.matching.specs.Picking.{InPorts};
+ghost use Rattle.words.specs.Words.{changed, withRecords};
+ghost use Rattle.matching.specs.Ready.{Orderly};
 
 #[no_mangle]
 pub extern "C" fn treikwater_stage_fit(table: &[u32], ports: u32, next: u32) -> bool
@@ -58,11 +58,10 @@ pub extern "C" fn treikwater_stage_phases(
     ports: u32,
     speedup: u32,
 )
-    requires { ⌜ ports ≤ mostPorts ⌝ }
+    requires { ⌜ Orderly ports (now table) ⌝ }
     requires { ⌜ length (now matches) ≡ speedup * ports ⌝ }
-    requires { ⌜ InPorts ports (cellsOf (now table)) ⌝ }
-    requires { ⌜ records (now table) ≤ mostRecords ⌝ }
-    ensures { λ _. ⌜ cellsOf (now (table .exit)) ≡ phases ports (readings (cellsOf (now (table .entry)))) (cellsOf (now (table .entry))) speedup ⌝ }
+    ensures { λ _. ⌜ now (table .exit)
+        ≡ withRecords (now (table .entry)) (phases ports (readings (cellsOf (now (table .entry)))) (cellsOf (now (table .entry))) speedup) ⌝ }
     ensures { λ _. ⌜ now (matches .exit) ≡ matchesOf ports (readings (cellsOf (now (table .entry)))) (cellsOf (now (table .entry))) speedup ⌝ }
 {
     let r = table::read(table);

@@ -1,6 +1,7 @@
 -- Where there is a cell for the outputs that are kept, the oldest is the first candidate; otherwise it is that for those with the lowest reading.
 use mathlib.Core.Path.{sym, _∙_}
-use Rattle.matching.specs.Rounds.{kept-lows, left-free, kept-left, kept-first, lows-first}
+use Rattle.ports.specs.PortLaws.{excepted, except-out}
+use Rattle.matching.specs.Rounds.{kept-lows, kept-left, kept-first, lows-first}
 use borrow.Author.Needs.{needs}
 use Rattle.matching.proofs.first_candidate.Statement.{statement}
 use Rattle.matching.proofs.first_candidate.Tie as tie
@@ -16,9 +17,9 @@ enum-known-found c = search needs
 
 returns : tie.Need-returns
 returns c =
-    let p = c .before .before .before .before .before .before .before .pre in
-    let e = c .before .before .before .before .except .ensures in
-    (kept-first (p .0 .ports) (kept-left e (p .1)) (left-free e) (sym (c .before .before .before .first-among .ensures) ∙ c .before .found .given .1), kept-left e (p .1))
+    let e = excepted (c .before .before .before .before .except .ensures) in
+    let h = kept-left e (c .before .before .before .before .before .before .before .pre .1) in
+    (kept-first h (except-out e) (sym (c .before .before .before .first-among .ensures) ∙ c .before .found .given .1), h)
 
 enum-told : tie.Need-enum-told
 enum-told c = search needs
@@ -32,7 +33,7 @@ first-among-requires-2 c κs = search needs
 returns-2 : tie.Need-returns-2
 returns-2 c =
     let w = c .before .lowest-readings .ensures in
-    (c .first-among2 .ensures ∙ lows-first (c .before .before .before .before .before .before .before .before .pre .0 .ports) w, kept-lows w)
+    (c .first-among2 .ensures ∙ lows-first w, kept-lows w)
 
 pub first-candidate-spec : {M : Type 1} → statement M
 first-candidate-spec =

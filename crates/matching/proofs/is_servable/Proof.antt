@@ -1,5 +1,6 @@
 -- There is one where some sender is not taken.
 use native.Mathlib.Omega.{arith}
+use Rattle.ports.specs.PortLaws.{excepted}
 use Rattle.matching.specs.Rounds.{servable-test}
 use borrow.Author.Needs.{needs}
 use Rattle.matching.proofs.is_servable.Statement.{statement}
@@ -12,7 +13,7 @@ except-requires : tie.Need-except-requires
 except-requires c κs = search needs
 
 returns : tie.Need-returns
-returns c = servable-test (c .before .before .before .before .pre .1) _ _ _ (c .before .before .before .before .pre .0) (rw (c .before .senders-for .ensures) at (c .except .ensures)) (omega arith)
+returns c = servable-test (c .before .before .before .before .pre .1) _ _ _ (c .before .before .before .before .pre .0) (rw (c .before .senders-for .ensures) at (excepted (c .except .ensures))) (omega arith)
 
 pub is-servable-spec : {M : Type 1} → statement M
 is-servable-spec = tie.close (tie.spec senders-for-requires except-requires returns)

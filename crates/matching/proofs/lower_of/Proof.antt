@@ -1,8 +1,6 @@
 -- The first output, one with a lower reading, one with a higher, one with the same.
-use mathlib.Core.Path.{refl}
-use mathlib.Core.Logic.{inl, inr}
-use native.Mathlib.Omega.{arith}
-use Rattle.ports.specs.PortLaws.{some-inside}
+use borrow.Author.Tests.{eq-eqb, ne-eqb, lt-ltb, le-ltb}
+use Rattle.matching.specs.Rounds.{lowered}
 use borrow.Author.Needs.{needs}
 use Rattle.matching.proofs.lower_of.Statement.{statement}
 use Rattle.matching.proofs.lower_of.Tie as tie
@@ -11,19 +9,24 @@ with-requires : tie.Need-with-requires
 with-requires c κs = search needs
 
 returns : tie.Need-returns
-returns c = inl (inl (c .if1 .taken), c .before .before .with .ensures, refl)
+unfolding lowered
+returns c = rw (eq-eqb _ _ (c .if1 .taken), c .before .before .with .ensures)
 
 returns-2 : tie.Need-returns-2
-returns-2 c = inl (inr (c .if2 .taken), c .before .before .before .before .with .ensures, refl)
+unfolding lowered
+returns-2 c = rw (ne-eqb _ _ (c .before .before .if1 .left), lt-ltb _ _ (c .if2 .taken), c .before .before .before .before .with .ensures)
 
 returns-3 : tie.Need-returns-3
-returns-3 c = inr (inr (c .if3 .taken, some-inside (c .before .before .before .before .before .before .before .args .lowest .outputs) (omega arith) (c .before .before .before .before .if1 .left), refl, refl))
+unfolding lowered
+returns-3 c = rw (ne-eqb _ _ (c .before .before .before .before .if1 .left), le-ltb _ _ (c .before .before .if2 .left), lt-ltb _ _ (c .if3 .taken))
 
 with-requires-2 : tie.Need-with-requires-2
 with-requires-2 c κs = search needs
 
 returns-4 : tie.Need-returns-4
-returns-4 c = inr (inl (omega arith, c .with2 .ensures, refl))
+unfolding lowered
+returns-4 c =
+    rw (ne-eqb _ _ (c .before .before .before .before .before .if1 .left), le-ltb _ _ (c .before .before .before .if2 .left), le-ltb _ _ (c .before .if3 .left), c .with2 .ensures)
 
 pub lower-of-spec : {M : Type 1} → statement M
 lower-of-spec =

@@ -1,43 +1,31 @@
 -- After i rounds the table, the taken ports and what is sifted show the cells that i rounds of the rules pick, and the queues are the table's;
 -- the outputs kept stay those with the lowest reading.
-use Prim.Native.Nat.{_≤_, _-_}
+use Prim.Native.Nat.{_-_, _<_}
 use mathlib.Core.Path.{_≡_, refl, sym, _∙_}
 use native.Mathlib.Omega.{arith}
 use borrow.Author.Needs.{needs}
 use lib.ListN.{length}
 use denote.Ref.{now}
-use Rattle.laws.specs.Walk.{over-zero}
-use Rattle.laws.specs.declared.Found.the-variants.{At}
-use Rattle.ports.specs.Ports.{has}
-use Rattle.rules.specs.Cells.{records, cellsOf}
-use Rattle.rules.specs.Phases.{firstOpen}
-use Rattle.words.specs.Words.{length-cellsOf, same-records}
-use Rattle.queues.specs.Queues.{All, Queues}
-use Rattle.matching.specs.Picking.{Shows, picks, picks-more, picks-all, stops, open-found, open-waits, finds, cell-same, length-shown, shows-add, shows-none}
-use Rattle.matching.specs.Rounds.{Kept, kept-none, kept-take}
+use Rattle.matching.specs.Picking.{shown-long}
+use Rattle.matching.specs.Rounds.{AfterRounds, rounds-none, rounds-all, rounds-stop, rounds-take, rounds-more}
 use Rattle.matching.proofs.pick.Statement.{statement}
 use Rattle.matching.proofs.pick.Tie as tie
 
 abbrev Inv-rounds : tie.InvT-rounds
-Inv-rounds table₀ queues₀ served₀ r ports taken₀ lows₀ round₀ table queues served taken lows round = (round ≤ ports) × (length table ≡ length table₀) × Shows (cellsOf table₀) (picks (r .counts) (cellsOf table₀) round) (cellsOf table) taken served × Queues All (cellsOf table) queues × Kept (r .counts) (has (taken .inputs)) (has (taken .outputs)) (cellsOf table) lows
+Inv-rounds table₀ queues₀ served₀ r ports taken₀ lows₀ round₀ table queues served taken lows round =
+    AfterRounds ports (r .counts) table₀ table queues taken served lows round
 
 abbrev μ-rounds : tie.MeasureT-rounds
 μ-rounds table₀ queues₀ served₀ r ports taken₀ lows₀ round₀ table queues served taken lows round = ports - round
 
--- what a round found is what the rules' round finds
-opened : (c : tie.After-found Inv-rounds μ-rounds) →
-    let a = c .before .before .before .before .before .before .before .before .before .args in
-    let p = picks (a .r .counts) (cellsOf (now (a .table))) (c .before .before .before .before .before .before .rounds .round) in
-    firstOpen (a .r .counts) (cellsOf (now (a .table))) p ≡ At (c .found .given .0 .0)
-opened c =
-    let a = c .before .before .before .before .before .before .before .before .before .args in
-    sym (finds (c .before .before .before .before .before .before .rounds .inv .2) (a .r .counts)) ∙ sym (c .before .before .first-candidate .ensures .0) ∙ c .found .given .1
+abbrev start : tie.At-rounds Inv-rounds μ-rounds → tie.Start Inv-rounds μ-rounds
+start c = c .before .before .before
 
 rounds-holds : tie.Need-rounds-holds Inv-rounds μ-rounds
-rounds-holds c = (omega arith, refl, rw (over-zero _ _) (shows-none (cellsOf (now (c .before .before .args .table))) _ _ refl refl (c .before .before .pre .1 .1 .1 .1)), c .before .before .pre .1 .1 .1 .0, kept-none _ _ _ _)
+rounds-holds c = let p = c .before .before .pre in rounds-none _ _ _ _ _ _ (p .0 .queues) refl refl (p .1)
 
 first-candidate-requires : tie.Need-first-candidate-requires Inv-rounds μ-rounds
-first-candidate-requires c κs = (c .before .before .before .rounds .inv .3, c .before .before .before .rounds .inv .4)
+first-candidate-requires c κs = let i = c .before .before .before .rounds .inv in (i .queues, i .kept)
 
 enum-known-found : tie.Need-enum-known-found Inv-rounds μ-rounds
 enum-known-found c = search needs
@@ -45,69 +33,69 @@ enum-known-found c = search needs
 enum-told : tie.Need-enum-told Inv-rounds μ-rounds
 enum-told c = search needs
 
+-- the scan, and the round that it belongs to
+abbrev scan : tie.After-found Inv-rounds μ-rounds → tie.After-first-candidate Inv-rounds μ-rounds
+scan c = c .before .before
+
+abbrev round-of : tie.After-first-candidate Inv-rounds μ-rounds → tie.At-rounds Inv-rounds μ-rounds
+round-of c = c .before .before .before .before
+
+abbrev found : tie.After-take-arg3 Inv-rounds μ-rounds → tie.After-found Inv-rounds μ-rounds
+found c = c .before .before .before .before
+
 take-requires : tie.Need-take-requires Inv-rounds μ-rounds
 take-requires c κs =
-    let a = c .before .before .before .before .before .before .before .before .before .before .before .before .before .args in
-    let i = c .before .before .before .before .before .before .before .before .before .before .rounds .inv in
-    let o = open-found (a .r .counts) (cellsOf (now (a .table))) _ _ (opened (c .before .before .before .before)) in
-    let w = open-waits (cellsOf (now (a .table))) _ _ (o .1) in
-    let s = cell-same (i .2) _ (o .0) in
-    let p = c .before .before .before .before .before .before .before .before .before .before .before .before .before .pre in
-    let e : records (c .before .before .before .before .before .before .before .before .before .before .rounds .table) ≡ records (now (a .table)) = same-records _ _ (i .1) in (
-      omega (arith, o .0, length-shown (i .2), length-cellsOf (c .before .before .before .before .before .before .before .before .before .before .rounds .table)),
-      (
-        rw e (p .1 .0),
-        (i .3, (omega (arith, s .input, p .0, p .1 .1 .0 .inputs _ (o .0) w), omega (arith, s .output, p .0, p .1 .1 .0 .outputs _ (o .0) w))),
-      ),
-    )
+    let f = found c in
+    let s = scan f in
+    rounds-take (round-of s .rounds .inv) (s .first-candidate .ensures .0) (f .found .given .1) (start (round-of s) .pre .0 .orderly)
+
+-- the call of `take`, and the test of its round
+abbrev taking : tie.After-slice-known4 Inv-rounds μ-rounds → tie.After-take Inv-rounds μ-rounds
+taking c = c .before .before .before .before
+
+tested : (c : tie.After-slice-known4 Inv-rounds μ-rounds) → let r = round-of (scan (found (taking c .before))) in r .rounds .round < start r .args .ports
+tested c = scan (found (taking c .before)) .before .before .before .rounds-test .taken
 
 add-round : tie.Need-add-round Inv-rounds μ-rounds
-add-round c = omega (arith, c .before .before .before .before .before .before .before .before .before .before .before .before .before .before .rounds-test .taken, c .before .before .before .before .before .before .before .before .before .before .before .before .before .before .before .before .before .before .fits)
+add-round c = let r = round-of (scan (found (taking c .before))) in omega (arith, r .rounds .inv .rounds, tested c, start r .fits)
 
 rounds-less : tie.Need-rounds-less Inv-rounds μ-rounds
-rounds-less c = omega (arith, c .before .before .before .before .before .before .before .before .before .before .before .before .before .before .rounds-test .taken)
+rounds-less c = omega (arith, tested c)
 
 rounds-again : tie.Need-rounds-again Inv-rounds μ-rounds
 rounds-again c =
-    let a = c .before .before .before .before .before .before .before .before .before .before .before .before .before .before .before .before .before .before .args in
-    let i = c .before .before .before .before .before .before .before .before .before .before .before .before .before .before .before .rounds .inv in
-    let q = opened (c .before .before .before .before .before .before .before .before .before) in
-    let o = open-found (a .r .counts) (cellsOf (now (a .table))) _ _ q in
-    let w = open-waits (cellsOf (now (a .table))) _ _ (o .1) in
-    let p = c .before .before .before .before .before .before .before .before .before .before .before .before .before .before .before .before .before .before .pre in
-    let t = c .before .before .before .before .take .ensures in (
-      omega (arith, c .before .before .before .before .before .before .before .before .before .before .before .before .before .before .rounds-test .taken),
-      t .0 ∙ i .1,
-      rw (picks-more (a .r .counts) (cellsOf (now (a .table))) _, q) (shows-add (i .2) _ (o .0) (o .1) (t .1 .1) (omega (arith, p .0, p .1 .1 .0 .outputs _ (o .0) w))),
-      t .1 .0,
-      kept-take (t .1 .1) (omega (arith, o .0, length-shown (i .2))) (c .before .before .before .before .before .before .before .before .before .before .before .first-candidate .ensures .1),
-    )
+    let t = taking c in
+    let f = found (t .before) in
+    let s = scan f in
+    let r = round-of s in
+    rounds-more (r .rounds .inv) (s .first-candidate .ensures .0) (f .found .given .1) (start r .pre .0 .orderly) (tested c) (s .first-candidate .ensures .1) (t .take .ensures)
+
+-- the table and the list of queues are as long as they were
+table-long : (c : tie.At-rounds Inv-rounds μ-rounds) → length (c .rounds .table) ≡ length (now (start c .args .table))
+table-long c = shown-long (c .rounds .inv .shows)
+
+queues-long : (c : tie.At-rounds Inv-rounds μ-rounds) → length (c .rounds .queues) ≡ length (now (start c .args .queues))
+queues-long c = c .rounds .inv .queues .long ∙ sym (start c .pre .0 .queues .long)
 
 same-length : tie.Need-same-length Inv-rounds μ-rounds
-same-length c = c .before .rounds .inv .1
+same-length c = table-long (c .before)
 
 same-length-2 : tie.Need-same-length-2 Inv-rounds μ-rounds
-same-length-2 c = c .before .rounds .inv .3 .long ∙ sym (c .before .before .before .before .pre .1 .1 .1 .0 .long)
+same-length-2 c = queues-long (c .before)
 
 returns : tie.Need-returns Inv-rounds μ-rounds
-returns c =
-    let a = c .before .before .before .before .args in
-    let i = c .before .rounds .inv in
-    let e : c .before .rounds .round ≡ a .ports = omega arith in
-    (i .1, (i .3, rw (← picks-all (a .r .counts) (cellsOf (now (a .table))) (a .ports)) (rw e at (i .2))))
+returns c = rounds-all (c .before .rounds .inv) (omega (arith, c .before .rounds .inv .rounds))
 
 same-length-3 : tie.Need-same-length-3 Inv-rounds μ-rounds
-same-length-3 c = c .before .before .before .before .before .before .rounds .inv .1
+same-length-3 c = table-long (round-of (c .before .before))
 
 same-length-4 : tie.Need-same-length-4 Inv-rounds μ-rounds
-same-length-4 c = c .before .before .before .before .before .before .rounds .inv .3 .long ∙ sym (c .before .before .before .before .before .before .before .before .before .pre .1 .1 .1 .0 .long)
+same-length-4 c = queues-long (round-of (c .before .before))
 
 returns-2 : tie.Need-returns-2 Inv-rounds μ-rounds
 returns-2 c =
-    let a = c .before .before .before .before .before .before .before .before .before .args in
-    let i = c .before .before .before .before .before .before .rounds .inv in
-    let q = sym (finds (i .2) (a .r .counts)) ∙ sym (c .before .before .first-candidate .ensures .0) ∙ c .enum-told .given .1 in
-    (i .1, (i .3, rw (stops (a .r .counts) (cellsOf (now (a .table))) _ (a .ports) (i .0) q) at (i .2)))
+    let s = c .before .before in
+    rounds-stop (round-of s .rounds .inv) (s .first-candidate .ensures .0) (c .enum-told .given .1)
 
 pub pick-spec : {M : Type 1} → statement M
 pick-spec =

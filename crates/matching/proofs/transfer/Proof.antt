@@ -7,13 +7,18 @@ use Rattle.matching.proofs.transfer.Statement.{statement}
 use Rattle.matching.proofs.transfer.Tie as tie
 
 pick-requires : tie.Need-pick-requires
-pick-requires c κs = let p = c .before .before .before .before .before .before .pre in (p .0, (p .1 .1 .0, (p .1 .1 .1 .0, (p .1 .1 .1 .1, refl))))
+pick-requires c κs = (c .before .before .before .before .before .before .pre .0, refl)
+
+abbrev picking : tie.After-served2 → tie.After-pick
+picking c = c .before .before .before .before .before .before
+
+abbrev start : tie.After-pick → tie.Start
+start c = c .before .before .before .before .before .before .before
 
 write-words-requires : tie.Need-write-words-requires
 write-words-requires c κs =
-    let a = c .before .before .before .before .before .before .before .before .before .before .before .before .before .args in
-    let p = c .before .before .before .before .before .before .before .before .before .before .before .before .before .pre in
-    rw (p .1 .0) (shows-writable (p .0) (p .1 .1 .1 .0) (a .r .counts) (c .before .before .before .before .before .before .pick .ensures .1 .1))
+    let k = picking c in
+    rw (start k .pre .1) (shows-writable (start k .pre .0 .orderly) _ (k .pick .ensures .shows))
 
 size-requires : tie.Need-size-requires
 size-requires c κs = search needs
@@ -30,18 +35,16 @@ same-length-3 c = search needs
 returns : tie.Need-returns
 unfolding phase
 returns c =
-    let a = c .before .before .before .before .before .before .before .before .before .before .before .before .before .before .before .before .before .args in
-    let p = c .before .before .before .before .before .before .before .before .before .before .before .before .before .before .before .before .before .pre in
-    let h = c .before .before .before .before .before .before .before .before .before .before .pick .ensures in
-    let w = c .before .before .before .write-words .ensures in (
-      h .1 .0,
-      record {
-        long = h .0;
-        cells = h .1 .1 .cells;
-        words = shows-words (p .0) (p .1 .1 .1 .0) (a .r .counts) (h .1 .1) _ (w .0 ∙ p .1 .0) (w .1);
-        moved = c .size .ensures ∙ shows-moves (p .0) (p .1 .1 .1 .0) (a .r .counts) (h .1 .1);
-      },
-    )
+    let w = c .before .before .before in
+    let k = picking (w .before) in
+    let o = start k .pre .0 .orderly in
+    let s = k .pick .ensures .shows in
+    record {
+      words = s .table;
+      queues = k .pick .ensures .queues;
+      matched = shows-words o _ s _ (w .write-words .ensures .0 ∙ start k .pre .1) (w .write-words .ensures .1);
+      moved = c .size .ensures ∙ shows-moves o _ s;
+    }
 
 pub transfer-spec : {M : Type 1} → statement M
 transfer-spec =

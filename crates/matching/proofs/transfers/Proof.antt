@@ -1,7 +1,8 @@
 -- The queues are lined up from zeros, and the phases run by them.
 use mathlib.Core.Path.{refl}
 use borrow.Author.Needs.{needs}
-use Rattle.matching.specs.Rounds.{in-ports}
+use Rattle.queues.specs.Lining.{lined-up}
+use Rattle.matching.specs.Ready.{orderly-lineable}
 use Rattle.matching.proofs.transfers.Statement.{statement}
 use Rattle.matching.proofs.transfers.Tie as tie
 
@@ -9,13 +10,16 @@ slice-aggregate-line-up : tie.Need-slice-aggregate-line-up
 slice-aggregate-line-up c = search needs
 
 line-up-requires : tie.Need-line-up-requires
-line-up-requires c κs = let p = c .before .before .before .before .pre in (p .1 .1 .1, (in-ports (p .0) (p .1 .1 .0), refl))
+line-up-requires c κs = (orderly-lineable (c .before .before .before .before .pre .0), refl)
 
 slice-aggregate-run-phases : tie.Need-slice-aggregate-run-phases
 slice-aggregate-run-phases c = search needs
 
 run-phases-requires : tie.Need-run-phases-requires
-run-phases-requires c κs = let p = c .before .before .before .before .before .before .before .before .before .pre in (p .0, (p .1 .0, (p .1 .1 .0, (p .1 .1 .1, c .before .before .before .before .line-up .ensures))))
+run-phases-requires c κs =
+    let l = c .before .before .before .before in
+    let p = l .before .before .before .before .before .pre in
+    (record { orderly = p .0; queues = rw (l .line-up .ensures) (lined-up (orderly-lineable (p .0))) }, p .1)
 
 same-length : tie.Need-same-length
 same-length c = search needs

@@ -3,6 +3,7 @@ use mathlib.Core.Path.{refl}
 use native.Mathlib.Omega.{arith}
 use native.Mathlib.Numerals.{add-one}
 use lib.ListN.{length-set}
+use Rattle.queues.specs.Queues.{linked}
 use borrow.Author.Needs.{needs}
 use Rattle.queues.proofs.link.Statement.{statement}
 use Rattle.queues.proofs.link.Tie as tie
@@ -44,6 +45,7 @@ same-length : tie.Need-same-length
 same-length c = search needs
 
 returns : tie.Need-returns
+unfolding linked
 returns c = rw add-one refl
 
 pub link-spec : {M : Type 1} → statement M

@@ -5,7 +5,7 @@ use denote.Ref.{now}
 use Rattle.laws.specs.First.{firstFound, firstFound-none}
 use Rattle.rules.specs.Cells.{cellsOf}
 use Rattle.table.specs.Table.{olderAt}
-use Rattle.queues.specs.Heads.{waiting-here, waiting-none}
+use Rattle.queues.specs.Lining.{waiting-here, waiting-none}
 use Rattle.queues.proofs.older_of.Statement.{statement}
 use Rattle.queues.proofs.older_of.Tie as tie
 

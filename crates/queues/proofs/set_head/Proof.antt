@@ -1,18 +1,21 @@
 -- One word is the head, one the set of inputs with this one added, or taken out where there is no head, one the set of outputs.
-use mathlib.Core.Path.{sym, ap, _∙_}
+use Prim.Native.Nat.{_<_}
+use mathlib.Core.Path.{_≡_}
 use native.Mathlib.Omega.{arith}
 use native.Mathlib.Numerals.{add-one}
 use lib.ListN.{length-set}
-use Rattle.ports.specs.PortLaws.{added-kept}
 use Rattle.laws.specs.Least.{below-at}
-use Rattle.queues.specs.Queues.{nameOf, isFound}
-use Rattle.queues.specs.Heads.{taken-out, head-set-at, head-unset}
+use Rattle.rules.specs.Cells.{mostRecords}
+use Rattle.queues.specs.Queues.{headSet}
 use borrow.Author.Needs.{needs}
 use Rattle.queues.proofs.set_head.Statement.{statement}
 use Rattle.queues.proofs.set_head.Tie as tie
 
 pair-of-requires : tie.Need-pair-of-requires
 pair-of-requires c κs = search needs
+
+cast-at : tie.Need-cast-at
+cast-at c = search needs
 
 add-at : tie.Need-add-at
 add-at c = search needs
@@ -54,17 +57,20 @@ same-length : tie.Need-same-length
 same-length c = search needs
 
 returns : tie.Need-returns
+unfolding headSet
 returns c =
-    let e = c .before .before .enum-told .given .1 in
-    let p = c .before .before .before .before .before .before .before .before .pre in
-    let t = taken-out (c .before .with .ensures) (c .except .ensures) in
-    head-unset _ _ _ _ _ (p .0) (p .1 .0) (p .1 .1 .0) e (t .0) (t .1) _ _ (c .before .before .before .before .before .before .pair-of .ensures) (sym (ap nameOf e))
+    rw (c .before .before .before .before .before .before .before .pair-of .ensures)
+    (rw (c .before .before .enum-told .given .1, c .except .ensures, c .before .with .ensures))
+
+-- the record found has a name
+names : (c : tie.After-known-told) → c .before .found .given .0 .0 < mostRecords
+names c = below-at mostRecords _ _ (c .before .found .given .1) (c .before .before .before .before .before .before .before .before .pre .1 .1)
 
 add-queues : tie.Need-add-queues
-add-queues c = record { fits = omega (arith, below-at 1024 _ _ (c .before .found .given .1) (c .before .before .before .before .before .before .before .pre .1 .1 .1)) }
+add-queues c = record { fits = omega (arith, names c) }
 
 cast-queues : tie.Need-cast-queues
-cast-queues c = record { fits = omega (arith, below-at 1024 _ _ (c .before .found .given .1) (c .before .before .before .before .before .before .before .pre .1 .1 .1)) }
+cast-queues c = record { fits = omega (arith, names c) }
 
 mul-queues-3 : tie.Need-mul-queues-3
 mul-queues-3 c = search needs
@@ -91,18 +97,17 @@ same-length-2 : tie.Need-same-length-2
 same-length-2 c = search needs
 
 returns-2 : tie.Need-returns-2
+unfolding headSet
 returns-2 c =
-    let e = c .before .before .before .found .given .1 in
-    let p = c .before .before .before .before .before .before .before .before .before .pre in
-    let w = c .before .with2 .ensures in
-    let v = c .with3 .ensures in
-    head-set-at _ _ _ _ _ _ (p .0) (p .1 .0) (p .1 .1 .0) (w .inside ∙ sym (ap isFound e)) (w .others) (λ f. v .inside) (added-kept v) _ _ (c .before .before .before .before .before .before .before .pair-of .ensures) (add-one _ ∙ sym (ap nameOf e))
+    rw (c .before .before .before .before .before .before .before .before .pair-of .ensures, add-one)
+    (rw (c .before .before .before .found .given .1, c .before .with2 .ensures, c .with3 .ensures))
 
 pub set-head-spec : {M : Type 1} → statement M
 set-head-spec =
     tie.close
     (tie.spec
     pair-of-requires
+    cast-at
     add-at
     mul-inputs
     slice-read-inputs
