@@ -9,12 +9,13 @@ use rules::MOST_RECORDS;
 use rules::MOST_SPEEDUP;
 use rules::Switch;
 ghost use mathlib.Core.Path.{_≡_};
+ghost use mathlib.Core.List.{[], _∷_};
 ghost use Prim.Native.Nat.{_*_, _≤_};
 ghost use lib.ListN.{length};
 ghost use lib.Dec.{ltb};
 ghost use Rattle.laws.specs.Count.{any};
 ghost use Rattle.rules.specs.Cells.{mostPorts, mostSpeedup};
-ghost use Rattle.rules.specs.Answers.{lists, arrivalWidth, outside, arriving, firstWord, lengthsFit, firstOf, freshAnswer, slotAnswer};
+ghost use Rattle.rules.specs.Answers.{lists, arrivalWidth, outside, arriving, firstWord, lengthsFit, row, firstOf, freshAnswer, slotAnswer};
 ghost use Rattle.rules.specs.Answers.{sizeChecks, tableChecks, listChecks, arrivalChecks, clockChecks, roomChecks};
 ghost use Rattle.checks.specs.Checks.{sizeUnfit};
 
@@ -78,10 +79,7 @@ fn check_sizes(w: Switch, table: &[u32]) -> Answer
 fn check_table(w: Switch, table: &[u32]) -> Answer
     ensures { λ r. ⌜ r ≡ firstOf (tableChecks w (now (table .entry))) ⌝ }
 {
-    if !fit_check::is_fit(table, w.ports, w.next) {
-        return Answer::Unfit;
-    }
-    Answer::Done
+    answer_if(!fit_check::is_fit(table, w.ports, w.next), Answer::Unfit)
 }
 
 // Row 5.
@@ -89,10 +87,10 @@ fn check_lists(w: Switch, arrivals: &[u32], matches: &[u32], exhaled: &[u32]) ->
     requires { ⌜ (w .ports ≤ mostPorts) × (w .speedup ≤ mostSpeedup) ⌝ }
     ensures { λ r. ⌜ r ≡ firstOf (listChecks w (lists (now (arrivals .entry)) (now (matches .entry)) (now (exhaled .entry)))) ⌝ }
 {
-    if !do_lengths_fit(w, arrivals, matches, exhaled) {
-        return Answer::BadLists;
-    }
-    Answer::Done
+    answer_if(
+        !do_lengths_fit(w, arrivals, matches, exhaled),
+        Answer::BadLists,
+    )
 }
 
 // Row 6.
@@ -100,20 +98,14 @@ fn check_arrivals(w: Switch, arrivals: &[u32]) -> Answer
     requires { ⌜ w .ports * arrivalWidth ≤ length (now arrivals) ⌝ }
     ensures { λ r. ⌜ r ≡ firstOf (arrivalChecks w (now (arrivals .entry))) ⌝ }
 {
-    if has_unknown(arrivals, w.ports) {
-        return Answer::NoSuchOutput;
-    }
-    Answer::Done
+    answer_if(has_unknown(arrivals, w.ports), Answer::NoSuchOutput)
 }
 
 // Row 7.
 fn check_clock(w: Switch) -> Answer
     ensures { λ r. ⌜ r ≡ firstOf (clockChecks w) ⌝ }
 {
-    if w.next.0 == LAST_SLOT {
-        return Answer::ClockSpent;
-    }
-    Answer::Done
+    answer_if(w.next.0 == LAST_SLOT, Answer::ClockSpent)
 }
 
 // Row 8.
@@ -123,10 +115,14 @@ fn check_room(w: Switch, table: &[u32], arrivals: &[u32]) -> Answer
 {
     let held = table::live(table);
     let coming = count_arriving(arrivals, w.ports);
-    if table::record_count(table) < held + coming {
-        return Answer::NoRoom;
-    }
-    Answer::Done
+    answer_if(table::record_count(table) < held + coming, Answer::NoRoom)
+}
+
+// A row by itself: its answer where it holds, and otherwise done.
+fn answer_if(holds: bool, refusal: Answer) -> Answer
+    ensures { λ r. ⌜ r ≡ firstOf (row holds refusal ∷ []) ⌝ }
+{
+    if holds { refusal } else { Answer::Done }
 }
 
 fn is_outside(x: u32, most: u32) -> bool
