@@ -191,6 +191,51 @@ inhaled-was {cs = cs} h k l w =
     (λ z. inl (z, h .old k l z))
     (eq-zero-or-pos (nth cs k .place))
 
+-- The table stays fit, for the next slot, where every first word names an output
+module _ {n : ℕ} {t : Slot} {arrivals : List ℕ} {cs us : List Cell} (h : Inhaled t arrivals n cs us) (f : Fit n t cs)
+    (known : (i : ℕ) → i < n → firstWord arrivals i ≤ n) where
+  old-sound : (c : Cell) → Sound n t c → Sound n (slotOf (suc (t .0))) c
+  old-sound c s = record { place = s .place; blank = s .blank; input = s .input; output = s .output; entered = λ w. omega (arith, s .entered w) }
+
+  arrival-sound : (j : ℕ) → j < n → So (arrives arrivals j) → Sound n (slotOf (suc (t .0))) (arrival t arrivals j)
+  arrival-sound j l x =
+      record {
+        place = omega arith;
+        blank = λ e. absurd (omega arith);
+        input = λ w. l;
+        output = λ w. pred-below (firstWord arrivals j) n (arrives→ arrivals j x) (known j l);
+        entered = λ w. omega arith;
+      }
+
+  each-sound : (k : ℕ) → k < length cs → Sound n (slotOf (suc (t .0))) (nth us k)
+  each-sound k l =
+      ⊎-elim
+      (λ z. ⊎-elim (λ y. rw y (old-sound (nth cs k) (f .each k l))) (λ y. rw (y .3) (arrival-sound (y .0) (y .1) (y .2))) (h .new k l z))
+      (λ w. rw (h .old k l w) (old-sound (nth cs k) (f .each k l)))
+      (eq-zero-or-pos (nth cs k .place))
+
+  early : (k : ℕ) → k < length cs → 1 ≤ nth cs k .place → nth us k ≡ nth cs k → nth us k .entered .0 < t .0
+  early k l w e = rw e (f .each k l .entered w)
+
+  still-apart : (j k : ℕ) → j < length cs → k < length cs → 1 ≤ nth us j .place → 1 ≤ nth us k .place
+      → nth us j .entered .0 ≡ nth us k .entered .0 → nth us j .input .0 ≡ nth us k .input .0 → j ≡ k
+  still-apart j k hj hk wj wk e i = go (inhaled-was h j hj wj) (inhaled-was h k hk wk)
+    where
+      Was : ℕ → Type 0
+      Was q = ((1 ≤ nth cs q .place) × (nth us q ≡ nth cs q)) ⊎ ((nth cs q .place ≡ 0) × (nth us q .entered .0 ≡ t .0) × (nth us q .place ≡ 1))
+
+      go : Was j → Was k → j ≡ k
+      go (inl x) (inl y) = f .apart j k hj hk (x .0) (y .0) (sym (entered≡ (x .1)) ∙ e ∙ entered≡ (y .1)) (sym (input≡ (x .1)) ∙ i ∙ input≡ (y .1))
+      go (inl x) (inr y) = absurd (omega (arith, early j hj (x .0) (x .1), y .1))
+      go (inr x) (inl y) = absurd (omega (arith, early k hk (y .0) (y .1), x .1))
+      go (inr x) (inr y) = h .once j k hj hk (x .0) (y .0) wj wk i
+
+  pub inhaled-fit : Fit n (slotOf (suc (t .0))) us
+  inhaled-fit = record {
+    each = λ k l. each-sound k (omega (arith, h .long));
+    apart = λ j k mj mk. still-apart j k (omega (arith, h .long)) (omega (arith, h .long));
+  }
+
 -- A slot that is accepted has room for every arriving cell: each gets a record, so none is lost.
 module _ (n : ℕ) (t : Slot) (arrivals : List ℕ) (cs : List Cell) (room : live cs + arriving n arrivals ≤ length cs) where
   pub inhale-is : Inhaled t arrivals n cs (inhale n t arrivals cs)
@@ -204,54 +249,5 @@ module _ (n : ℕ) (t : Slot) (arrivals : List ℕ) (cs : List Cell) (room : liv
   unfolding arriving
   inhale-total = inhale-is .total
 
-  -- the table stays fit, for the next slot, where every first word names an output
   pub inhale-fit : Fit n t cs → ((i : ℕ) → i < n → firstWord arrivals i ≤ n) → Fit n (slotOf (suc (t .0))) (inhale n t arrivals cs)
-  inhale-fit f known = record { each = λ k l. each k (omega (arith, h .long)); apart = apart }
-    where
-      us : List Cell
-      us = inhale n t arrivals cs
-
-      h : Inhaled t arrivals n cs us
-      h = inhale-is
-
-      older-sound : (c : Cell) → Sound n t c → Sound n (slotOf (suc (t .0))) c
-      older-sound c s = record { place = s .place; blank = s .blank; input = s .input; output = s .output; entered = λ w. omega (arith, s .entered w) }
-
-      arrival-sound : (j : ℕ) → j < n → So (arrives arrivals j) → Sound n (slotOf (suc (t .0))) (arrival t arrivals j)
-      arrival-sound j l x =
-          record {
-            place = omega arith;
-            blank = λ e. absurd (omega arith);
-            input = λ w. l;
-            output = λ w. pred-below (firstWord arrivals j) n (arrives→ arrivals j x) (known j l);
-            entered = λ w. omega arith;
-          }
-
-      each : (k : ℕ) → k < length cs → Sound n (slotOf (suc (t .0))) (nth us k)
-      each k l =
-          ⊎-elim
-          (λ z. ⊎-elim (λ y. rw y (older-sound (nth cs k) (f .each k l))) (λ y. rw (y .3) (arrival-sound (y .0) (y .1) (y .2))) (h .new k l z))
-          (λ w. rw (h .old k l w) (older-sound (nth cs k) (f .each k l)))
-          (eq-zero-or-pos (nth cs k .place))
-
-      early : (k : ℕ) → k < length cs → 1 ≤ nth cs k .place → nth us k ≡ nth cs k → nth us k .entered .0 < t .0
-      early k l w e = rw e (f .each k l .entered w)
-
-      apart : (j k : ℕ) → j < length us → k < length us → 1 ≤ nth us j .place → 1 ≤ nth us k .place
-          → nth us j .entered .0 ≡ nth us k .entered .0 → nth us j .input .0 ≡ nth us k .input .0 → j ≡ k
-      apart j k mj mk wj wk e i = go (inhaled-was h j hj wj) (inhaled-was h k hk wk)
-        where
-          hj : j < length cs
-          hj = omega (arith, h .long)
-
-          hk : k < length cs
-          hk = omega (arith, h .long)
-
-          Was : ℕ → Type 0
-          Was q = ((1 ≤ nth cs q .place) × (nth us q ≡ nth cs q)) ⊎ ((nth cs q .place ≡ 0) × (nth us q .entered .0 ≡ t .0) × (nth us q .place ≡ 1))
-
-          go : Was j → Was k → j ≡ k
-          go (inl x) (inl y) = f .apart j k hj hk (x .0) (y .0) (sym (entered≡ (x .1)) ∙ e ∙ entered≡ (y .1)) (sym (input≡ (x .1)) ∙ i ∙ input≡ (y .1))
-          go (inl x) (inr y) = absurd (omega (arith, early j hj (x .0) (x .1), y .1))
-          go (inr x) (inl y) = absurd (omega (arith, early k hk (y .0) (y .1), x .1))
-          go (inr x) (inr y) = h .once j k hj hk (x .0) (y .0) wj wk i
+  inhale-fit = inhaled-fit inhale-is
