@@ -20,11 +20,11 @@ use Rattle.ideal.specs.Fit.{Fit, stays-itself}
 use Rattle.ideal.specs.Phases.{match-readied}
 use Rattle.ideal.specs.Exhaled.{shown, shown→}
 use Rattle.ideal.specs.Calls.{Accepted, entered-fit, after-fit, slot-cells}
-use Rattle.ideal.specs.Runs.{KeptBySlots, slot-accepts, slot-does, stretch-at}
+use Rattle.ideal.specs.Runs.{KeptBySlots, slot-accepts, slot-does, unbroken-at}
 use Rattle.demands.specs.Ages.{age}
 use Rattle.demands.specs.Policy.{Policy}
 use Rattle.demands.specs.Led.{Led}
-use Rattle.demands.specs.States.{Ruled, ageRule, by-age-ruled, entry, call-leads, Good, good-kept}
+use Rattle.demands.specs.States.{Ruled, ageRule, by-age-ruled, call-entry, call-leads, Good, good-kept}
 use Rattle.demands.specs.Conserves.{works, orders}
 use Rattle.demands.specs.Elders.{readied-holds}
 use Rattle.demands.specs.Due.{Due, due-hold, inhale-holds, due-exhale}
@@ -92,7 +92,7 @@ module _ (x : State) (ls : Lists) (h : So (isAccepted x (slots ls))) where
         → let c : Cell = arrival (x .numbers .next) (ls .arrivals) i in Due c (x .numbers .next .0 + elders full c) (x .numbers .next .0) full
     unfolding inhaled
     arrival-due i l y =
-        let came = entry a (g .clock) .came in
+        let came = call-entry a (g .clock) .came in
         let k = came .came i l y in
         let itself = stays-itself (arrival (x .numbers .next) (ls .arrivals) i) (omega arith) (omega arith) in
         inl (record { number = k .0; below = omega (arith, k .1, came .long); stays = rw (k .3) itself; turn = omega arith })
@@ -121,7 +121,7 @@ module _ (c : Cell) (s : ℕ) where
     carried p =
         let b = slot-accepts x ls h in
         slot-due x ls h (p .good) (p .fast) (omega (arith, p .entered))
-        (due-hold (inhale-holds (entry b (p .good .clock) .came) (b .fits)) (p .entered) (p .due))
+        (due-hold (inhale-holds (call-entry b (p .good .clock) .came) (b .fits)) (p .entered) (p .due))
 
     carries : Good ageRule x → 3 ≤ x .numbers .speedup → c .entered .0 ≤ x .numbers .next .0
         → Due c s (left .numbers .next .0) (cellsOf (left .table)) → Carries c s left
@@ -153,7 +153,7 @@ unfolding stateAt run unbroken
 departs x g fast ls h i l y later u zero r = slot-due x ls h g fast (omega arith) (arrival-due x ls h g fast i l y) .0
 departs x g fast ls h i l y later u (suc j) r =
     shown-in c s (stateAt next later j) (callAt later j) r
-    (stretch-at (Carries c s) (carries-kept c s) next later (both (not (restarts x (slots ls))) _ u .1) first j)
+    (unbroken-at (Carries c s) (carries-kept c s) next later (both (not (restarts x (slots ls))) _ u .1) first j)
   where
     c : Cell
     c = arrival (x .numbers .next) (ls .arrivals) i

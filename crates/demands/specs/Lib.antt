@@ -1,7 +1,7 @@
 pub mod Ages
 pub mod Policy
 pub mod Ahead
-pub mod Turn
+pub mod Exchange
 pub mod Phase
 pub mod Led
 pub mod Steps

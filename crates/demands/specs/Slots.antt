@@ -17,10 +17,10 @@ use Rattle.ideal.specs.Exhale.{length-exhale}
 use Rattle.demands.specs.Ages.{slotEnd}
 use Rattle.demands.specs.Policy.{Policy}
 use Rattle.demands.specs.Ahead.{readyIn, Slack}
-use Rattle.demands.specs.Turn.{Turn, turn}
+use Rattle.demands.specs.Exchange.{Exchange, exchange-keeps}
 use Rattle.demands.specs.Phase.{Phase, phase-gains}
 use Rattle.demands.specs.Led.{Led, slack-led}
-use Rattle.demands.specs.Steps.{inhale-turn, reading-is, advance-phase, exhale-turn}
+use Rattle.demands.specs.Steps.{inhale-exchange, reading-is, advance-phase, exhale-exchange}
 
 -- the invariant between slots, and between an inhale and the first phase
 abbrev pub Rest : Policy → List Cell → Type 0
@@ -42,8 +42,8 @@ pub record Entry (n : ℕ) (t : Slot) (arrivals : List ℕ) (cs us : List Cell) 
 -- it takes the weight of one cell
 pub inhale-laden : (q : Policy) {n : ℕ} {t : Slot} {arrivals : List ℕ} {cs us : List Cell} → Entry n t arrivals cs us → Rest q cs → Laden q us
 inhale-laden q h inv =
-    rw (h .came .long)
-    (turn inv (inhale-turn (h .came) (q .weighs) (h .ports) (omega (arith, h .clock)) (h .fits) (h .stays-fit)) (omega arith) (omega arith))
+    let e = inhale-exchange (h .came) (q .weighs) (h .ports) (omega (arith, h .clock)) (h .fits) (h .stays-fit) in
+    rw (h .came .long) (exchange-keeps inv e (omega arith) (omega arith))
 
 -- The phases and the exhale ----------------------------------------------------------------------
 
@@ -74,8 +74,8 @@ module _ (q : Policy) {n : ℕ} {t : Slot} {us : List Cell} (ports : n ≤ mostP
   phases-gain inv zero = rw (phasesBy-zero (λ i. q .pick n (readings us)) us) inv
   phases-gain inv (suc j) = phase-gains (q .weighs) (moves j) (phases-gain inv j)
 
-  exhales : (j : ℕ) → Turn (length us) (q .key) (nth (tableAt j)) (nth (exhale n (tableAt j))) 0 1
-  exhales j = rw (sym (readied j .long)) (exhale-turn (fits-at j) (q .key) ports clock)
+  exhales : (j : ℕ) → Exchange (length us) (q .key) (nth (tableAt j)) (nth (exhale n (tableAt j))) 0 1
+  exhales j = rw (sym (readied j .long)) (exhale-exchange (fits-at j) (q .key) ports clock)
 
   module _ (inv : Laden q us) where
     pub slot-leads : {s : ℕ} → 1 ≤ s → Led (length (tableAt s)) (q .key) (nth (tableAt s))
@@ -83,4 +83,4 @@ module _ (q : Policy) {n : ℕ} {t : Slot} {us : List Cell} (ports : n ≤ mostP
 
     -- the exhale takes one of what the phases gained above the weight
     pub slot-rests : {s : ℕ} → q .weight < s → Rest q (exhale n (tableAt s))
-    slot-rests {s} fast = rw (length-exhale n (tableAt s) ∙ readied s .long) (turn (phases-gain inv s) (exhales s) (omega arith) (omega arith))
+    slot-rests {s} fast = rw (length-exhale n (tableAt s) ∙ readied s .long) (exchange-keeps (phases-gain inv s) (exhales s) (omega arith) (omega arith))

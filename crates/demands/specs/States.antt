@@ -45,9 +45,9 @@ by-age-ruled = record { made = λ w cs. phases-by (w .ports) (readings cs) cs (w
 -- An accepted slot -------------------------------------------------------------------------------
 
 module _ {w : Switch} {table : List ℕ} {ls : Lists} (a : Accepted w table ls) (clock : w .next .0 ≤ lastSlot) where
-  pub entry : Entry (w .ports) (w .next) (ls .arrivals) (cellsOf table) (full a)
+  pub call-entry : Entry (w .ports) (w .next) (ls .arrivals) (cellsOf table) (full a)
   unfolding entered
-  entry = record {
+  call-entry = record {
     ports = a .sizes .ports .1;
     clock = ⊎-elim (λ e. absurd (a .clock e)) (λ l. l) (eq-or-lt-of-le clock);
     fits = a .fits;
@@ -57,16 +57,18 @@ module _ {w : Switch} {table : List ℕ} {ls : Lists} (a : Accepted w table ls) 
 
   module _ {rule : Switch → Policy} (ruled : Ruled rule) (fast : rule w .weight < w .speedup) (inv : Rest (rule w) (cellsOf table)) where
     laden : Laden (rule w) (full a)
-    laden = inhale-laden (rule w) entry inv
+    laden = inhale-laden (rule w) call-entry inv
 
     pub call-leads : Led (length (transferred w (full a))) (rule w .key) (nth (transferred w (full a)))
-    call-leads = rw (ruled .made w (full a)) (slot-leads (rule w) (entry .ports) (omega (arith, entry .clock)) (entry .stays-fit) laden (omega arith))
+    call-leads =
+        rw (ruled .made w (full a))
+        (slot-leads (rule w) (call-entry .ports) (omega (arith, call-entry .clock)) (call-entry .stays-fit) laden (omega arith))
 
     call-rests : Rest (rule w) (cellsOf (slotRuns w table (ls .arrivals) .table))
     unfolding transferred
     call-rests =
         rw (slot-cells a ∙ ap (exhale (w .ports)) (ruled .made w (full a)))
-        (slot-rests (rule w) (entry .ports) (omega (arith, entry .clock)) (entry .stays-fit) laden fast)
+        (slot-rests (rule w) (call-entry .ports) (omega (arith, call-entry .clock)) (call-entry .stays-fit) laden fast)
 
 -- The states of a run ----------------------------------------------------------------------------
 
@@ -92,7 +94,7 @@ module _ {rule : Switch → Policy} where
         subst (λ s. Good rule (s .after)) (sym (slot-does x ls h))
         (record {
           fits = slot-fit a;
-          clock = omega (arith, entry a (g .clock) .clock);
+          clock = omega (arith, call-entry a (g .clock) .clock);
           slack = rw (ruled .kept (x .numbers)) (λ fast. call-rests a (g .clock) ruled fast (g .slack fast));
         })
 

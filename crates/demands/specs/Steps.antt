@@ -26,7 +26,7 @@ use Rattle.ideal.specs.Exhale.{exhale-kept, exhale-left}
 use Rattle.ideal.specs.Meets.{one-each}
 use Rattle.demands.specs.Ages.{age, slotEnd, reach, rank, before→}
 use Rattle.demands.specs.Ahead.{readyIn}
-use Rattle.demands.specs.Turn.{comes, comes→, Turn}
+use Rattle.demands.specs.Exchange.{comes, comes→, Exchange}
 use Rattle.demands.specs.Phase.{Phase}
 use Rattle.demands.specs.Policy.{Weighs, Advances}
 
@@ -47,9 +47,9 @@ module _ {n : ℕ} {t : Slot} {arrivals : List ℕ} {cs us : List Cell} (h : Inh
   was-ready : (k : ℕ) → k < length cs → nth us k .place ≡ 2 → (1 ≤ nth cs k .place) × (nth us k ≡ nth cs k)
   was-ready k l w = ⊎-elim (λ y. y) (λ y. absurd (omega (arith, y .2))) (inhaled-was h k l (omega arith))
 
-  pub inhale-turn : {key : Cell → ℕ} {v : ℕ} → Weighs key v → n ≤ mostPorts → t .0 < slotEnd → Fit n t cs → Fit n (slotOf (suc (t .0))) us
-      → Turn (length cs) key (nth cs) (nth us) 1 0
-  inhale-turn law ports clock f g =
+  pub inhale-exchange : {key : Cell → ℕ} {v : ℕ} → Weighs key v → n ≤ mostPorts → t .0 < slotEnd → Fit n t cs → Fit n (slotOf (suc (t .0))) us
+      → Exchange (length cs) key (nth cs) (nth us) 1 0
+  inhale-exchange law ports clock f g =
       record {
         stays = λ k l w w′. h .old k l (omega arith);
         ready = λ k l w. was-ready k l w .1;
@@ -129,8 +129,8 @@ module _ {n : ℕ} {t : Slot} {cs : List Cell} (f : Fit n t cs) where
           let y = both _ _ b in
           one-each f j k (x .0) (y .0) (eqb-true _ _ (x .1) ∙ sym (eqb-true _ _ (y .1)))
 
-  pub exhale-turn : (key : Cell → ℕ) → n ≤ mostPorts → t .0 ≤ slotEnd → Turn (length cs) key (nth cs) (nth (exhale n cs)) 0 1
-  exhale-turn key ports clock =
+  pub exhale-exchange : (key : Cell → ℕ) → n ≤ mostPorts → t .0 ≤ slotEnd → Exchange (length cs) key (nth cs) (nth (exhale n cs)) 0 1
+  exhale-exchange key ports clock =
       record {
         stays = λ k l w w′. exhale-left n cs k l (omega arith) .1;
         ready = λ k l w. exhale-left n cs k l (omega arith) .1;

@@ -25,10 +25,10 @@ use Rattle.ideal.specs.Cells.{place≡, readyFor→, →readyFor, older-
 use Rattle.ideal.specs.Fit.{Fit, Stays, stays-refl, fit-part}
 
 -- what is found for an output: the first of its ready records, by slot and then input
-abbrev pub Oldest : List Cell → Output → Found → Type 0
-Oldest cs o x = Least (λ k. isReadyFor o (nth cs k)) (λ i j. older (nth cs i) (nth cs j)) (length cs) x
+abbrev pub OldestReady : List Cell → Output → Found → Type 0
+OldestReady cs o x = Least (λ k. isReadyFor o (nth cs k)) (λ i j. older (nth cs i) (nth cs j)) (length cs) x
 
-pub oldest-is : (cs : List Cell) (o : Output) → Oldest cs o (oldestReady cs o)
+pub oldest-is : (cs : List Cell) (o : Output) → OldestReady cs o (oldestReady cs o)
 unfolding oldestReady
 oldest-is cs o = least-is (λ k. isReadyFor o (nth cs k)) (λ i j. older (nth cs i) (nth cs j)) (strict-on older older-strict (nth cs)) (length cs)
 
@@ -46,7 +46,7 @@ module _ (n : ℕ) (cs : List Cell) where
       let b = both (ltb (nth cs k .output .0) n) _ h in
       go (ltb-true _ _ (b .0)) (oldestReady cs (nth cs k .output)) (oldest-is cs (nth cs k .output)) (b .1)
     where
-      go : nth cs k .output .0 < n → (x : Found) → Oldest cs (nth cs k .output) x → So (isAt k x) → FirstReady n cs k
+      go : nth cs k .output .0 < n → (x : Found) → OldestReady cs (nth cs k .output) x → So (isAt k x) → FirstReady n cs k
       go l Nothing s x = absurd (false≢true x)
       go l (At j) s x =
           let e : k ≡ j = eqb-true k j x in
@@ -58,7 +58,7 @@ module _ (n : ℕ) (cs : List Cell) where
           }
 
   -- what an output below n finds is emitted there
-  pub found-emitted : (o : Output) (k : ℕ) → o .0 < n → oldestReady cs o ≡ At k → Oldest cs o (At k) → So (isEmitted n cs k)
+  pub found-emitted : (o : Output) (k : ℕ) → o .0 < n → oldestReady cs o ≡ At k → OldestReady cs o (At k) → So (isEmitted n cs k)
   unfolding isEmitted
   found-emitted o k l e s =
       let q = readyFor→ o (nth cs k) (s .1) .1 in
@@ -69,7 +69,7 @@ module _ (n : ℕ) (cs : List Cell) where
       → (k : ℕ) × (k < length cs) × So (isEmitted n cs k) × (nth cs k .output .0 ≡ nth cs j .output .0)
   some-emitted j i w l = go (oldestReady cs (nth cs j .output)) refl (oldest-is cs (nth cs j .output))
     where
-      go : (x : Found) → oldestReady cs (nth cs j .output) ≡ x → Oldest cs (nth cs j .output) x
+      go : (x : Found) → oldestReady cs (nth cs j .output) ≡ x → OldestReady cs (nth cs j .output) x
           → (k : ℕ) × (k < length cs) × So (isEmitted n cs k) × (nth cs k .output .0 ≡ nth cs j .output .0)
       go Nothing e s = absurd (s j i (→readyFor (nth cs j .output) (nth cs j) w refl))
       go (At k) e s = (k, s .0, found-emitted (nth cs j .output) k l e s, readyFor→ (nth cs j .output) (nth cs k) (s .1) .1)

@@ -23,7 +23,7 @@ use Rattle.rules.specs.Phases.{oldestReady, isEmitted, emittedWords, exhaled}
 use Rattle.rules.specs.Demands.{emits, emitted}
 use Rattle.ideal.specs.Cells.{same-cell, readyFor→}
 use Rattle.ideal.specs.Fit.{Fit}
-use Rattle.ideal.specs.Exhale.{Oldest, oldest-is, emitted→, found-emitted}
+use Rattle.ideal.specs.Exhale.{OldestReady, oldest-is, emitted→, found-emitted}
 use Rattle.ideal.specs.Meets.{one-each}
 
 -- an entry has as many words whether a cell is emitted or none
@@ -44,7 +44,7 @@ module _ (n : ℕ) (cs : List Cell) where
   first-word o l = ap (λ (i : ℕ). getD (exhaled n cs) i 0) (sym (add-zero (o * exhaledWidth))) ∙ word-at o 0 l (omega arith)
 
   -- an output that finds record k shows its cell
-  shows : (o k : ℕ) → o < n → oldestReady cs (outputOf o) ≡ At k → Oldest cs (outputOf o) (At k)
+  shows : (o k : ℕ) → o < n → oldestReady cs (outputOf o) ≡ At k → OldestReady cs (outputOf o) (At k)
       → So (emits (exhaled n cs) o) × (emitted (exhaled n cs) o ≡ nth cs k)
   unfolding emits emitted
   shows o k l e s =
@@ -67,14 +67,14 @@ module _ (n : ℕ) (cs : List Cell) where
   unfolding isEmitted
   shown k h =
       let e = isAt→ k _ (both (ltb (nth cs k .output .0) n) _ h .1) in
-      shows (nth cs k .output .0) k (emitted→ n cs k h .output) e (subst (Oldest cs (nth cs k .output)) e (oldest-is cs (nth cs k .output)))
+      shows (nth cs k .output .0) k (emitted→ n cs k h .output) e (subst (OldestReady cs (nth cs k .output)) e (oldest-is cs (nth cs k .output)))
 
   -- and what an output shows is a record that it emits
   pub shown→ : (o : ℕ) → o < n → So (emits (exhaled n cs) o)
       → (k : ℕ) × (k < length cs) × So (isEmitted n cs k) × (nth cs k .output .0 ≡ o) × (emitted (exhaled n cs) o ≡ nth cs k)
   shown→ o l h = go (oldestReady cs (outputOf o)) refl (oldest-is cs (outputOf o))
     where
-      go : (x : Found) → oldestReady cs (outputOf o) ≡ x → Oldest cs (outputOf o) x
+      go : (x : Found) → oldestReady cs (outputOf o) ≡ x → OldestReady cs (outputOf o) x
           → (k : ℕ) × (k < length cs) × So (isEmitted n cs k) × (nth cs k .output .0 ≡ o) × (emitted (exhaled n cs) o ≡ nth cs k)
       go Nothing e s = absurd (silent o l e h)
       go (At k) e s = (k, s .0, found-emitted n cs (outputOf o) k l e s, readyFor→ (outputOf o) (nth cs k) (s .1) .1, shows o k l e s .1)

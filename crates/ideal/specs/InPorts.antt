@@ -1,19 +1,16 @@
 -- Every waiting cell's ports are below n: all that the transfer phases ask of a table's cells. A fit table has it, and phases keep it.
 -- Assumes nothing.
-use Prim.Native.Nat.{ℕ, zero, suc, _≤_, _<_}
-use mathlib.Core.Path.{_≡_, ap}
-use mathlib.Core.Logic.{⊎-elim}
-use mathlib.Core.Bool.{Bool}
+use Prim.Native.Nat.{ℕ, _≤_, _<_}
+use mathlib.Core.Path.{_≡_}
 use mathlib.Core.List.{List}
 use native.Mathlib.Omega.{arith}
 use lib.ListN.{length}
-use Rattle.laws.specs.Tests.{passes}
 use Rattle.rules.specs.declared.Slot.{Slot}
 use Rattle.rules.specs.declared.Cell.{Cell}
 use Rattle.rules.specs.Cells.{nth}
-use Rattle.rules.specs.Phases.{moved, phases}
+use Rattle.rules.specs.Phases.{phases}
 use Rattle.ideal.specs.Fit.{Fit}
-use Rattle.ideal.specs.Phases.{length-moved, moved-yes, moved-no, phases-zero, phases-suc}
+use Rattle.ideal.specs.Phases.{Readied, readied-waits, match-readied}
 
 pub record InPorts (n : ℕ) (cs : List Cell) : Type 0 where
   pub inputs : (k : ℕ) → k < length cs → nth cs k .place ≡ 1 → nth cs k .input .0 < n
@@ -34,14 +31,9 @@ in-ports-still {n} {cs} e still f =
       outputs = λ k l w. let s = still k (rw e at l) w in rw s (f .outputs k (rw e at l) (rw s at w));
     }
 
--- whatever moves, the others stay
-pub in-ports-moved : {n : ℕ} {cs : List Cell} (m : ℕ → Bool) → InPorts n cs → InPorts n (moved m cs)
-in-ports-moved {n} {cs} m f = in-ports-still (length-moved m cs) still f
-  where
-    still : (k : ℕ) → k < length cs → nth (moved m cs) k .place ≡ 1 → nth (moved m cs) k ≡ nth cs k
-    still k l w =
-        ⊎-elim (λ x. absurd (omega (arith, w, ap (λ (c : Cell). c .place) (moved-yes m cs k l x)))) (λ x. moved-no m cs k l x) (passes (m k))
+-- phases of any picking of waiting records, and so those of the rules
+pub in-ports-readied : {n : ℕ} {cs us : List Cell} → Readied cs us → InPorts n cs → InPorts n us
+in-ports-readied h = in-ports-still (h .long) (readied-waits h)
 
 pub in-ports-phases : {n : ℕ} {cs : List Cell} (r : List ℕ) → InPorts n cs → (j : ℕ) → InPorts n (phases n r cs j)
-in-ports-phases {n} {cs} r f zero = rw (phases-zero n r cs) f
-in-ports-phases {n} {cs} r f (suc j) = rw (phases-suc n r cs j) (in-ports-moved _ (in-ports-phases r f j))
+in-ports-phases {n} {cs} r f j = in-ports-readied (match-readied n r cs j) f

@@ -8,17 +8,17 @@ use mathlib.Core.List.{List}
 use Prim.Native.Nat.{ℕ, zero, suc, _≤_, _<_}
 use native.Mathlib.Omega.{arith}
 use native.Mathlib.Nat.{eq-zero-or-pos}
-use lib.ListN.{length}
+use lib.ListN.{length, set}
 use Rattle.laws.specs.Tests.{No, passes, cond-true, cond-false}
 use Rattle.laws.specs.Walk.{over}
 use Rattle.laws.specs.Count.{count-same}
-use Rattle.laws.specs.Lists.{length-tabulate, getD-tabulate}
+use Rattle.laws.specs.Lists.{length-tabulate, getD-tabulate, set-cases}
 use Rattle.rules.specs.declared.Slot.{Slot}
 use Rattle.rules.specs.declared.Cell.{Cell}
 use Rattle.rules.specs.Cells.{free, nth, placed, isWaiting, isLive}
 use Rattle.rules.specs.Answers.{live}
 use Rattle.rules.specs.Phases.{matchOf, moved, phase, phases}
-use Rattle.ideal.specs.Cells.{place≡, waiting→, →waiting, →live, placed-same}
+use Rattle.ideal.specs.Cells.{place≡, waiting→, →waiting, →live, Same, same-self, placed-same}
 use Rattle.ideal.specs.Fit.{Sound, Fit, Stays, stays-refl, fit-part}
 use Rattle.ideal.specs.Match.{match-waits}
 
@@ -91,6 +91,18 @@ module _ {cs us : List Cell} (h : Readied cs us) where
       (count-same (λ k. isLive (nth us k)) (λ k. isLive (nth cs k)) (length cs)
       (λ k l x. ⊎-elim (λ e. rw e at x) (λ e. →live _ (omega (arith, e .0))) (h .each k l))
       (λ k l x. ⊎-elim (λ e. rw e x) (λ e. rw (e .1) (→live _ (omega arith))) (h .each k l)))
+
+-- one record becomes ready: what still waits is another one, and no record holds another cell
+module _ (cs : List Cell) (k : ℕ) (l : k < length cs) where
+  pub placed-waits : (j : ℕ) → nth (set cs k (placed 2 (nth cs k))) j .place ≡ 1 → nth (set cs k (placed 2 (nth cs k))) j ≡ nth cs j
+  placed-waits j w = ⊎-elim (λ s. absurd (omega (arith, place≡ (s .1)))) (λ s. s .1) (set-cases free cs k (placed 2 (nth cs k)) l j)
+
+  pub placed-cell : (j : ℕ) → Same (nth (set cs k (placed 2 (nth cs k))) j) (nth cs j)
+  placed-cell j =
+      ⊎-elim
+      (λ s. let e : j ≡ k = s .0 in rw (s .1, e) (placed-same 2 (nth cs k)))
+      (λ s. rw (s .1) (same-self (nth cs j)))
+      (set-cases free cs k (placed 2 (nth cs k)) l j)
 
 -- Phases of any picking --------------------------------------------------------------------------
 

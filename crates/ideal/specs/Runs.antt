@@ -100,17 +100,17 @@ module _ (P : State → Type 0) (kept : KeptBySlots P) where
       by (slots l) s h = kept x l h p
 
   -- through calls of which none is an accepted fresh start
-  pub stretch : (x : State) (calls : List Call) → So (unbroken x calls) → P x → P (run x calls)
+  pub unbroken-keeps : (x : State) (calls : List Call) → So (unbroken x calls) → P x → P (run x calls)
   unfolding unbroken run
-  stretch x [] u p = p
-  stretch x (c ∷ cs) u p =
+  unbroken-keeps x [] u p = p
+  unbroken-keeps x (c ∷ cs) u p =
       let b = both (not (restarts x c)) _ u in
-      stretch (does x c .after) cs (b .1) (call-keeps x c (λ h. absurd (refuted h (denied _ (b .0)))) p)
+      unbroken-keeps (does x c .after) cs (b .1) (call-keeps x c (λ h. absurd (refuted h (denied _ (b .0)))) p)
 
   -- and before each of them
-  pub stretch-at : (x : State) (calls : List Call) → So (unbroken x calls) → P x → (j : ℕ) → P (stateAt x calls j)
+  pub unbroken-at : (x : State) (calls : List Call) → So (unbroken x calls) → P x → (j : ℕ) → P (stateAt x calls j)
   unfolding stateAt
-  stretch-at x calls u p j = stretch x (take j calls) (unbroken-take x calls j u) p
+  unbroken-at x calls u p j = unbroken-keeps x (take j calls) (unbroken-take x calls j u) p
 
   module _ (made : MadeByStarts P) where
     restarts-make : (x : State) (c : Call) → So (restarts x c) → P (does x c .after)

@@ -1,4 +1,4 @@
--- A turn of the table, an inhale or an exhale: a few cells come to an input, a few leave an output. It keeps the invariant, for the counts as
+-- An exchange of cells, an inhale or an exhale: a few come to an input, a few leave an output. It keeps the invariant, for the counts as
 -- they then are.
 -- Assumes nothing.
 use mathlib.Core.Path.{_≡_, subst₂, ap}
@@ -33,7 +33,7 @@ module _ (t u : ℕ → Cell) (i k : ℕ) where
       (λ e. refuted (eq-eqb _ _ e) (denied _ (a .0)), eqb-true _ _ (b .0), eqb-true _ _ (b .1))
 
 -- from t to u at most g cells come to an input, and at most e leave an output
-pub record Turn (n : ℕ) (key : Cell → ℕ) (t u : ℕ → Cell) (g e : ℕ) : Type 0 where
+pub record Exchange (n : ℕ) (key : Cell → ℕ) (t u : ℕ → Cell) (g e : ℕ) : Type 0 where
   pub stays : (k : ℕ) → k < n → (t k) .place ≡ 1 → (u k) .place ≡ 1 → u k ≡ t k
   pub ready : (k : ℕ) → k < n → (u k) .place ≡ 2 → u k ≡ t k
   pub fresh : (i k j : ℕ) → k < n → j < n → So (comes t u i k) → (u j) .place ≡ 2 → key (u j) ≤ key (u k)
@@ -42,7 +42,7 @@ pub record Turn (n : ℕ) (key : Cell → ℕ) (t u : ℕ → Cell) (g e : ℕ) 
   pub bounded : (k : ℕ) → k < n → (u k) .place ≡ 1 → age (u k) < reach
 
 module _ {n : ℕ} {key : Cell → ℕ} {v : ℕ} {r : ℕ → ℕ} {t u : ℕ → Cell} {a b c g e : ℕ}
-    (inv : Slack n key v r t a b) (m : Turn n key t u g e) (fits : e + b + v * g ≤ a + c) (fits′ : v * g ≤ c) where
+    (inv : Slack n key v r t a b) (m : Exchange n key t u g e) (fits : e + b + v * g ≤ a + c) (fits′ : v * g ≤ c) where
   module _ (f l : ℕ) (hf : f < n) (hl : l < n) (wl : (u l) .place ≡ 1) (hfl : So (isAhead (readyIn n u) (u l) (u f))) where
     abbrev before-l : Cell → Bool
     before-l x = isAhead (readyIn n u) (u l) x
@@ -120,5 +120,5 @@ module _ {n : ℕ} {key : Cell → ℕ} {v : ℕ} {r : ℕ → ℕ} {t u : ℕ �
     each : Goal
     each = ⊎-elim (λ x. some-old (x .0) (x .1) (x .2) (x .3)) all-come (largest old (λ k. rank r (t k)) n)
 
-  pub turn : Slack n key v (readyIn n u) u 0 c
-  turn = record { slack = each }
+  pub exchange-keeps : Slack n key v (readyIn n u) u 0 c
+  exchange-keeps = record { slack = each }
