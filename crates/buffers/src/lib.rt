@@ -31,12 +31,14 @@ fn enter(table: &mut [u32], arrivals: &[u32], i: Input, t: Slot, from: usize) ->
     let Found::At(k) = table::next_free(table, from) else {
         return from;
     };
+    let output = word - 1;
+    let tag = arrivals[at + 1];
     let c = Cell {
         place: 1,
         input: i,
-        output: Output(word - 1),
+        output: Output(output),
         entered: t,
-        tag: arrivals[at + 1],
+        tag: tag,
     };
     table::put_cell(table, k, c);
     k + 1

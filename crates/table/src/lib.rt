@@ -49,12 +49,17 @@ pub fn cell_at(table: &[u32], k: usize) -> Cell
     ensures { λ r. ⌜ r ≡ nth (cellsOf (now (table .entry))) k ⌝ }
 {
     let at = k * rules::RECORD_WORDS;
+    let place = table[at];
+    let input = table[at + 1];
+    let output = table[at + 2];
+    let entered = table[at + 3];
+    let tag = table[at + 4];
     Cell {
-        place: table[at],
-        input: Input(table[at + 1]),
-        output: Output(table[at + 2]),
-        entered: Slot(table[at + 3]),
-        tag: table[at + 4],
+        place: place,
+        input: Input(input),
+        output: Output(output),
+        entered: Slot(entered),
+        tag: tag,
     }
 }
 

@@ -66,17 +66,17 @@ returns-2 c =
     let l = c .before .before in
     no-room _ _ _ _ (start (arrives l) .pre .0) (arrives l .if1 .left) (sym (l .next-free .ensures) ∙ c .enum-told .given .1)
 
-sub-t12 : tie.Need-sub-t12
-sub-t12 c = search needs
+sub-output : tie.Need-sub-output
+sub-output c = search needs
 
-add-t10 : tie.Need-add-t10
-add-t10 c = search needs
+add-tag : tie.Need-add-tag
+add-tag c = search needs
 
-mul-t18 : tie.Need-mul-t18
-mul-t18 c = search needs
+mul-tag : tie.Need-mul-tag
+mul-tag c = search needs
 
-shared-slice-read-t20 : tie.Need-shared-slice-read-t20
-shared-slice-read-t20 c = search needs
+shared-slice-read-tag : tie.Need-shared-slice-read-tag
+shared-slice-read-tag c = search needs
 
 put-cell-requires : tie.Need-put-cell-requires
 put-cell-requires c κs = room-inside _ _ (room (c .before .before .before))
@@ -108,10 +108,10 @@ enter-spec =
     enum-told
     same-length
     returns-2
-    sub-t12
-    add-t10
-    mul-t18
-    shared-slice-read-t20
+    sub-output
+    add-tag
+    mul-tag
+    shared-slice-read-tag
     put-cell-requires
     add-result
     same-length-2

@@ -10,61 +10,61 @@ mul-at : tie.Need-mul-at
 unfolding records
 mul-at c = omega arith
 
-mul-t4 : tie.Need-mul-t4
+mul-place : tie.Need-mul-place
 unfolding records
-mul-t4 c = omega arith
+mul-place c = omega arith
 
-shared-slice-read-t6 : tie.Need-shared-slice-read-t6
+shared-slice-read-place : tie.Need-shared-slice-read-place
 unfolding records
-shared-slice-read-t6 c = omega arith
+shared-slice-read-place c = omega arith
 
-add-t7 : tie.Need-add-t7
+add-input : tie.Need-add-input
 unfolding records
-add-t7 c = omega arith
+add-input c = omega arith
 
-mul-t8 : tie.Need-mul-t8
+mul-input : tie.Need-mul-input
 unfolding records
-mul-t8 c = omega arith
+mul-input c = omega arith
 
-shared-slice-read-t10 : tie.Need-shared-slice-read-t10
+shared-slice-read-input : tie.Need-shared-slice-read-input
 unfolding records
-shared-slice-read-t10 c = omega arith
+shared-slice-read-input c = omega arith
 
-add-t12 : tie.Need-add-t12
+add-output : tie.Need-add-output
 unfolding records
-add-t12 c = omega arith
+add-output c = omega arith
 
-mul-t13 : tie.Need-mul-t13
+mul-output : tie.Need-mul-output
 unfolding records
-mul-t13 c = omega arith
+mul-output c = omega arith
 
-shared-slice-read-t15 : tie.Need-shared-slice-read-t15
+shared-slice-read-output : tie.Need-shared-slice-read-output
 unfolding records
-shared-slice-read-t15 c = omega arith
+shared-slice-read-output c = omega arith
 
-add-t17 : tie.Need-add-t17
+add-entered : tie.Need-add-entered
 unfolding records
-add-t17 c = omega arith
+add-entered c = omega arith
 
-mul-t18 : tie.Need-mul-t18
+mul-entered : tie.Need-mul-entered
 unfolding records
-mul-t18 c = omega arith
+mul-entered c = omega arith
 
-shared-slice-read-t20 : tie.Need-shared-slice-read-t20
+shared-slice-read-entered : tie.Need-shared-slice-read-entered
 unfolding records
-shared-slice-read-t20 c = omega arith
+shared-slice-read-entered c = omega arith
 
-add-t22 : tie.Need-add-t22
+add-tag : tie.Need-add-tag
 unfolding records
-add-t22 c = omega arith
+add-tag c = omega arith
 
-mul-t23 : tie.Need-mul-t23
+mul-tag : tie.Need-mul-tag
 unfolding records
-mul-t23 c = omega arith
+mul-tag c = omega arith
 
-shared-slice-read-t25 : tie.Need-shared-slice-read-t25
+shared-slice-read-tag : tie.Need-shared-slice-read-tag
 unfolding records
-shared-slice-read-t25 c = omega arith
+shared-slice-read-tag c = omega arith
 
 returns : tie.Need-returns
 returns c = sym (nth-cellsOf _ _ (omega arith))
@@ -74,18 +74,18 @@ cell-at-spec =
     tie.close
     (tie.spec
     mul-at
-    mul-t4
-    shared-slice-read-t6
-    add-t7
-    mul-t8
-    shared-slice-read-t10
-    add-t12
-    mul-t13
-    shared-slice-read-t15
-    add-t17
-    mul-t18
-    shared-slice-read-t20
-    add-t22
-    mul-t23
-    shared-slice-read-t25
+    mul-place
+    shared-slice-read-place
+    add-input
+    mul-input
+    shared-slice-read-input
+    add-output
+    mul-output
+    shared-slice-read-output
+    add-entered
+    mul-entered
+    shared-slice-read-entered
+    add-tag
+    mul-tag
+    shared-slice-read-tag
     returns)
