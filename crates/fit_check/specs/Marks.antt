@@ -1,35 +1,34 @@
--- Marks of live cells in 1,024 masks, by the low digits of slot and input. Two records with the same slot and input have the same mark,
--- so a cell whose mark is new is alone.
+-- Marks of live cells, by the remainders of slot and input. Two records with the same slot and input have the same mark, so a cell whose mark is
+-- new is alone. Nothing here asks whether a record is sound.
 -- Assumes nothing.
-use Prim.Native.Nat.{ℕ, _+_, _-_, _*_, _%_, _≤_, _<_}
+use Prim.Native.Nat.{ℕ, _+_, _-_, _%_, _<_}
 use mathlib.Core.Path.{_≡_, refl, sym, ap, ap₂, _∙_}
-use mathlib.Core.Bool.{Bool, So, true, false, not, _&&_}
-use mathlib.Core.List.{List}
+use mathlib.Core.Bool.{Bool, So, true, false, not}
+use mathlib.Core.List.{List, []}
 use native.Mathlib.Omega.{arith}
 use native.Mathlib.Numerals.{add-one}
 use borrow.Author.Tests.{eqb-true, eqb-false}
-use lib.Bits.{bitAnd, and-mask}
 use lib.Dec.{eqb}
 use lib.ListN.{length, getD, set, length-set}
 use lib.Seq.{getD-set-same, getD-set-other}
-use Rattle.laws.specs.Tests.{No, both, join, refuted, to-no, denied, deny, fails-left}
+use Rattle.laws.specs.Tests.{No, both, refuted, to-no, denied, deny}
 use Rattle.laws.specs.Walk.{below-suc}
-use Rattle.laws.specs.Count.{every, →every, every-more, every-broken}
-use Rattle.laws.specs.Sifted.{Sifted, past}
-use Rattle.rules.specs.declared.Slot.{Slot}
+use Rattle.laws.specs.Count.{→every}
 use Rattle.rules.specs.declared.Cell.{Cell}
-use Rattle.rules.specs.Cells.{free, nth, isFree, isLive, isBlank, isSound, sameSlot, sameInput, sameEntry, isAlone, width, records, cellsOf, fit}
-use Rattle.words.specs.Words.{length-cellsOf, nth-cellsOf}
+use Rattle.rules.specs.Cells.{mostPorts, free, nth, isFree, isLive, sameSlot, sameInput, sameEntry, isAlone}
 use Rattle.ports.specs.Ports.{has, Added}
 use Rattle.table.specs.Table.{not-live}
-use Rattle.fit_check.specs.Blocks.{free-not-live, Strays}
-use Rattle.sift.specs.Stretch.{Lacks, walk-to, walk-end}
 
+-- how many masks there are: `MARK_ROWS` of the source
+abbrev pub markRows : ℕ
+markRows = 1024
+
+-- the mask that a cell is marked in, and its port there
 abbrev rowOf : Cell → ℕ
-rowOf c = c .entered .0 % 1024
+rowOf c = c .entered .0 % markRows
 
 abbrev portOf : Cell → ℕ
-portOf c = c .input .0 % 16
+portOf c = c .input .0 % mostPorts
 
 -- the mark of c is in the masks
 unfoldable pub marked : List ℕ → Cell → Bool
@@ -37,7 +36,7 @@ marked ms c = has (getD ms (rowOf c) 0) (portOf c)
 
 -- the masks hold each live record below k
 pub record Seen (ms : List ℕ) (cs : List Cell) (k : ℕ) : Type 0 where
-  pub long : length ms ≡ 1024
+  pub long : length ms ≡ markRows
   pub each : (j : ℕ) → j < k → So (isLive (nth cs j)) → So (marked ms (nth cs j))
 
 -- the masks ms become ns by the cell c, whose mark is new if r
@@ -52,7 +51,7 @@ free-marked ms c e =
     let n : No (isLive c) = not-live refl e in
     record { long = refl; fresh = λ r l. absurd (refuted l n); here = λ l. absurd (refuted l n); kept = λ d h. h }
 
-pub live-marked : (ms : List ℕ) (c : Cell) (b : Bool) (r : ℕ) → length ms ≡ 1024 → Added (getD ms (rowOf c) 0) (portOf c) r
+pub live-marked : (ms : List ℕ) (c : Cell) (b : Bool) (r : ℕ) → length ms ≡ markRows → Added (getD ms (rowOf c) 0) (portOf c) r
     → b ≡ has (getD ms (rowOf c) 0) (portOf c) → Marked ms c (not b) (set ms (rowOf c) r)
 unfolding marked
 live-marked ms c b r n a e =
@@ -74,8 +73,13 @@ live-marked ms c b r n a e =
         at (rowOf d) (portOf d) (eqb-true _ _ p)
         (a .others (portOf d) (eqb-false _ _ q) ∙ ap (λ (y : ℕ). has (getD ms y 0) (portOf d)) (sym (eqb-true _ _ p)) ∙ h)
 
-pub seen-none : (ms : List ℕ) (cs : List Cell) → length ms ≡ 1024 → Seen ms cs 0
+pub seen-none : (ms : List ℕ) (cs : List Cell) → length ms ≡ markRows → Seen ms cs 0
 seen-none ms cs n = record { long = n; each = λ j l. absurd (omega arith) }
+
+-- what is told of record k: whether it is alone; it is marked
+pub record Told (cs : List Cell) (k : ℕ) (r : Bool) (ms : List ℕ) : Type 0 where
+  pub alone : r ≡ isAlone cs k
+  pub seen : Seen ms cs (k + 1)
 
 -- two records with the same slot and input are live and have the same mark
 one-mark : (ms : List ℕ) (c d : Cell) → So (sameEntry c d) → So (isLive c) × So (isLive d) × (marked ms c ≡ marked ms d)
@@ -84,7 +88,7 @@ one-mark ms c d h =
     let x = both _ (eqb (c .input .0) (d .input .0)) h in
     let y = both _ (eqb (c .entered .0) (d .entered .0)) (x .0) in
     let z = both (isLive c) (isLive d) (y .0) in
-    (z .0, z .1, ap₂ (λ (s i : ℕ). has (getD ms (s % 1024) 0) (i % 16)) (eqb-true _ _ (y .1)) (eqb-true _ _ (x .1)))
+    (z .0, z .1, ap₂ (λ (s i : ℕ). has (getD ms (s % markRows) 0) (i % mostPorts)) (eqb-true _ _ (y .1)) (eqb-true _ _ (x .1)))
 
 -- record k, read as c, is marked
 module _ {ms ns : List ℕ} {r : Bool} {c : Cell} (cs : List Cell) (k : ℕ) (s : Seen ms cs k) (e : c ≡ nth cs k) (m : Marked ms c r ns) where
@@ -107,46 +111,20 @@ module _ {ms ns : List ℕ} {r : Bool} {c : Cell} (cs : List Cell) (k : ℕ) (s 
       let t = one-mark ms (nth cs k) (nth cs j) q in
       refuted (s .each j l (t .1)) (sym (t .2) ∙ ap (marked ms) (sym e) ∙ m .fresh h (ap isLive e ∙ t .0)))))
 
--- a free record is sound and alone, and needs no mark
-module _ (cs : List Cell) (k : ℕ) (e : nth cs k ≡ free) where
-  pub free-sound : (n : ℕ) (t : Slot) → So (isSound n t (nth cs k))
-  unfolding isSound isFree isBlank
-  free-sound n t = ap (isSound n t) e
+-- a free record is alone, and needs no mark
+free-not-live : No (isLive free)
+unfolding isLive isFree
+free-not-live = refl
 
+module _ (cs : List Cell) (k : ℕ) (e : nth cs k ≡ free) where
   pub free-alone : So (isAlone cs k)
-  unfolding isAlone sameEntry
-  free-alone = →every _ k (λ j l. deny _ (ap (λ (c : Cell). sameEntry c (nth cs j)) e ∙ fails-left _ (sameInput (free .input) (nth cs j .input)) (fails-left _ (sameSlot (free .entered) (nth cs j .entered)) (fails-left _ (isLive (nth cs j)) free-not-live))))
+  unfolding isAlone
+  free-alone = →every _ k (λ j l. deny _ (to-no (λ q. refuted (one-mark [] (nth cs k) (nth cs j) q .0) (ap isLive e ∙ free-not-live))))
 
   pub seen-free : {ms : List ℕ} → Seen ms cs k → Seen ms cs (k + 1)
   seen-free {ms} s = record {
     long = s .long;
-    each = rw (add-one k) (below-suc (λ (j : ℕ). So (isLive (nth cs j)) → So (marked ms (nth cs j))) k (s .each) (λ h. absurd (refuted h (ap isLive e ∙ free-not-live))));
+    each =
+        rw (add-one k)
+        (below-suc (λ (j : ℕ). So (isLive (nth cs j)) → So (marked ms (nth cs j))) k (s .each) (λ h. absurd (refuted h (ap isLive e ∙ free-not-live))));
   }
-
--- every record below k is sound and alone, and marked if it is live
-pub record Passed (n : ℕ) (t : Slot) (cs : List Cell) (ms : List ℕ) (k : ℕ) : Type 0 where
-  pub good : So (every (λ i. isSound n t (nth cs i) && isAlone cs i) k)
-  pub seen : Seen ms cs k
-
--- over the live records of a stretch, those that are not sifted being free
-module _ (ws : List ℕ) {list : List ℕ} {k end m r : ℕ} (d : Sifted (Lacks ws k 4294967295) list m (end - k)) (l : k ≤ end) (small : (i : ℕ) → getD ws i 0 < 4294967296) (inside : end ≤ records ws) (s : Strays (cellsOf ws) k end r) (z : r ≡ 0) (n : ℕ) (t : Slot) (ms : List ℕ) where
-  no-place : (x : ℕ) → x < records ws → bitAnd (nth (cellsOf ws) x .place) 4294967295 ≡ 0 → nth (cellsOf ws) x .place ≡ 0
-  no-place x h e =
-      let q : nth (cellsOf ws) x .place ≡ getD ws (x * width) 0 = ap (λ (c : Cell). c .place) (nth-cellsOf ws x h) in
-      omega (arith, q, small (x * width), sym (and-mask (nth (cellsOf ws) x .place) 32) ∙ e)
-
-  keeps : (x : ℕ) → k ≤ x → x < end → bitAnd (nth (cellsOf ws) x .place) 4294967295 ≡ 0 → Passed n t (cellsOf ws) ms x → Passed n t (cellsOf ws) ms (x + 1)
-  keeps x f h e p =
-      let q = s .none z x f h (no-place x (omega arith) e) in
-      record { good = every-more _ _ (p .good) (join _ _ (free-sound (cellsOf ws) x q n t) (free-alone (cellsOf ws) x q)); seen = seen-free (cellsOf ws) x q (p .seen) }
-
-  pub passed-to : (j : ℕ) → j < m → Passed n t (cellsOf ws) ms (k + past list j) → Passed n t (cellsOf ws) ms (k + getD list j 0)
-  passed-to = walk-to ws 4294967295 d l (Passed n t (cellsOf ws) ms) keeps
-
-  pub passed-end : Passed n t (cellsOf ws) ms (k + past list m) → Passed n t (cellsOf ws) ms end
-  passed-end = walk-end ws 4294967295 d l (Passed n t (cellsOf ws) ms) keeps
-
--- one record that is not sound or not alone, and the table is not fit
-pub unfit : (ws : List ℕ) (n : ℕ) (t : Slot) (x : ℕ) → x < records ws → No (isSound n t (nth (cellsOf ws) x) && isAlone (cellsOf ws) x) → No (fit n t (cellsOf ws))
-unfolding fit
-unfit ws n t x h q = every-broken _ x _ (rw (length-cellsOf ws) h) q

@@ -1,51 +1,59 @@
-// Whether a table is fit, in one pass over its words. A free record is looked at by the or of its words, a live one by itself, and against the
-// others by a mark for its slot and input.
+// Whether a table is fit, in one pass over its words. Three parts that know nothing of each other:
+// - what a record must meet by itself, `is_sound`; of a free record, that nothing stands behind its place;
+// - that no two live records have the same slot and the same input, `is_alone_by`: a live record is marked by the two, and where its mark is not
+//   new, all records below are looked at;
+// - the walk, stretch by stretch: blocks of free records are passed over, what stands behind the places of other free records is gathered in one
+//   word, and the live records are listed, so that only they are looked at one by one.
 use rules::Cell;
 use rules::Slot;
 ghost use mathlib.Core.Path.{_≡_};
-ghost use mathlib.Core.Bool.{So};
-ghost use Prim.Native.Nat.{_+_, _-_, _*_, _/_, _<_, _≤_};
+ghost use mathlib.Core.Bool.{not};
+ghost use Prim.Native.Nat.{ℕ, _+_, _-_, _*_, _/_, _<_, _≤_};
+ghost use lib.Dec.{eqb};
 ghost use lib.ListN.{length};
-ghost use Rattle.laws.specs.Tests.{No};
+ghost use Rattle.laws.specs.Bits.{orTo};
 ghost use Rattle.laws.specs.Sifted.{Sifted};
-ghost use Rattle.rules.specs.Cells.{records, cellsOf, isBlank, isSound, sameEntry, isAlone, fit};
-ghost use Rattle.sift.specs.Stretch.{Lacks};
-ghost use Rattle.fit_check.specs.Blocks.{OrOf, BlockFree, Stray, Strays};
-ghost use Rattle.fit_check.specs.Marks.{Seen, Marked, Passed};
+ghost use Rattle.rules.specs.Cells.{width, records, cellsOf, sameEntry, isAlone, fit};
+ghost use Rattle.words.specs.Behind.{behind};
+ghost use Rattle.sift.specs.Stretch.{stretch, block, blockCount, Stretch};
+ghost use Rattle.fit_check.specs.Sound.{soundBy, isStray, Strays};
+ghost use Rattle.fit_check.specs.Blocks.{Free, BlockFree, Blocks, Within};
+ghost use Rattle.fit_check.specs.Marks.{markRows, Seen, Marked, Told};
+ghost use Rattle.fit_check.specs.Walk.{Surveyed, FitSoFar, FitTo};
 
-// The four fields after the place are zero.
-fn is_blank(c: Cell) -> bool
-    ensures { λ r. ⌜ r ≡ isBlank c ⌝ }
+// How many masks the marks have: slots with the same remainder share one.
+const MARK_ROWS: u32 = 1_024;
+
+// What a record is held against by itself.
+struct Bounds {
+    ports: u32,
+    next: Slot,
+}
+
+// What stands behind the place of a record, all in one: 0 where each of these fields is.
+fn behind_place(c: Cell) -> u32
+    ensures { λ r. ⌜ r ≡ orTo (behind c) (width - 1) ⌝ }
 {
-    if c.input.0 != 0 {
-        return false;
-    }
-    if c.output.0 != 0 {
-        return false;
-    }
-    if c.entered.0 != 0 {
-        return false;
-    }
-    c.tag == 0
+    c.input.0 | c.output.0 | c.entered.0 | c.tag
 }
 
 // What a record must meet by itself.
-fn is_sound(c: Cell, ports: u32, t: Slot) -> bool
-    ensures { λ r. ⌜ r ≡ isSound ports t c ⌝ }
+fn is_sound(c: Cell, bounds: Bounds) -> bool
+    ensures { λ r. ⌜ r ≡ soundBy bounds c ⌝ }
 {
     if c.place == 0 {
-        return is_blank(c);
+        return behind_place(c) == 0;
     }
     if 2 < c.place {
         return false;
     }
-    if ports <= c.input.0 {
+    if bounds.ports <= c.input.0 {
         return false;
     }
-    if ports <= c.output.0 {
+    if bounds.ports <= c.output.0 {
         return false;
     }
-    c.entered.0 < t.0
+    c.entered.0 < bounds.next.0
 }
 
 // Both live, with the same slot and the same input. The slot differs most often, and is asked first.
@@ -81,27 +89,27 @@ fn is_alone(table: &[u32], k: usize) -> bool
     true
 }
 
-// Marks a live cell by the low digits of its slot and its input; whether no cell was so marked before.
-fn is_new(marks: &mut [u16; 1024], c: Cell) -> bool
-    requires { ⌜ length (now marks) ≡ 1024 ⌝ }
+// Marks a live cell by its slot and its input; whether no cell was so marked before.
+fn is_new(marks: &mut [u16; MARK_ROWS as usize], c: Cell) -> bool
+    requires { ⌜ length (now marks) ≡ markRows ⌝ }
     ensures { λ r. ⌜ Marked (now (marks .entry)) c r (now (marks .exit)) ⌝ }
 {
     if c.place == 0 {
         return true;
     }
-    let at = (c.entered.0 % 1024) as usize;
-    let port = c.input.0 % 16;
+    let at = (c.entered.0 % MARK_ROWS) as usize;
+    let port = c.input.0 % rules::MOST_PORTS;
     let mask = marks[at];
     marks[at] = ports::with(mask, port);
     !ports::holds(mask, port)
 }
 
-// The same, by the marks of the cells below it; the records are looked at only where its mark is not new. Record k is marked too.
-fn is_alone_by(table: &[u32], k: usize, marks: &mut [u16; 1024]) -> bool
+// Whether record k has the same slot and input as no record below it, by their marks; the records are looked at only where its mark is not new.
+// Record k is marked too.
+fn is_alone_by(table: &[u32], k: usize, marks: &mut [u16; MARK_ROWS as usize]) -> bool
     requires { ⌜ k < records (now table) ⌝ }
     requires { ⌜ Seen (now marks) (cellsOf (now table)) k ⌝ }
-    ensures { λ r. ⌜ r ≡ isAlone (cellsOf (now (table .entry))) k ⌝ }
-    ensures { λ _. ⌜ Seen (now (marks .exit)) (cellsOf (now (table .entry))) (k + 1) ⌝ }
+    ensures { λ r. ⌜ Told (cellsOf (now (table .entry))) k r (now (marks .exit)) ⌝ }
 {
     let c = table::cell_at(table, k);
     if is_new(marks, c) {
@@ -112,7 +120,7 @@ fn is_alone_by(table: &[u32], k: usize, marks: &mut [u16; 1024]) -> bool
 
 // The or of some words: 0 only where every word is.
 fn or_of(words: &[u32]) -> u32
-    ensures { λ r. ⌜ OrOf (now (words .entry)) r ⌝ }
+    ensures { λ r. ⌜ r ≡ orTo (now (words .entry)) (length (now (words .entry))) ⌝ }
 {
     let mut all = 0;
     let mut i = 0;
@@ -123,33 +131,40 @@ fn or_of(words: &[u32]) -> u32
     all
 }
 
-// Sieved the blocks of eight in which some word is not 0, of so many from record k on. The others are eight free records each, which need no look.
-fn sift_touched(table: &[u32], k: usize, count: usize, blocks: &mut [u8; 32]) -> usize
-    requires { ⌜ k + count * 8 ≤ records (now table) ⌝ }
-    requires { ⌜ count ≤ 32 ⌝ }
-    requires { ⌜ length (now blocks) ≡ 32 ⌝ }
+// The or of the words of the block that begins at record k: 0 only where its records are free.
+fn or_of_block(table: &[u32], k: usize) -> u32
+    requires { ⌜ k + block ≤ records (now table) ⌝ }
+    ensures { λ r. ⌜ (r ≡ 0 → (j : ℕ) → j < block → Free (now (table .entry)) k j) ⌝ }
+{
+    let at = k * rules::RECORD_WORDS;
+    or_of(&table[at..at + sift::BLOCK * rules::RECORD_WORDS])
+}
+
+// Lists the blocks in which some word is not 0, of so many from record k on. The records of the others are free and need no look.
+fn list_touched(table: &[u32], k: usize, count: usize, blocks: &mut [u8; sift::BLOCKS]) -> usize
+    requires { ⌜ Blocks (now table) k count ⌝ }
+    requires { ⌜ length (now blocks) ≡ blockCount ⌝ }
     ensures { λ r. ⌜ Sifted (BlockFree (now (table .entry)) k) (now (blocks .exit)) r count ⌝ }
-    ensures { λ _. ⌜ length (now (blocks .exit)) ≡ 32 ⌝ }
+    ensures { λ _. ⌜ length (now (blocks .exit)) ≡ blockCount ⌝ }
 {
     let mut found = 0;
     let mut b = 0;
     while b < count {
         blocks[found] = b as u8;
-        let at = (k + b * 8) * 5;
-        found += sift::one_if_any(or_of(&table[at..at + 40]));
+        found += sift::one_if_any(or_of_block(table, k + b * sift::BLOCK));
         b += 1;
     }
     found
 }
 
-// What stands behind the place of a free record, all in one.
+// What stands behind the place of a free record; 0 of a live one.
 fn stray_of(c: Cell) -> u32
-    ensures { λ r. ⌜ Stray c r ⌝ }
+    ensures { λ r. ⌜ not (eqb r 0) ≡ isStray c ⌝ }
 {
     if c.place != 0 {
         return 0;
     }
-    c.input.0 | c.output.0 | c.entered.0 | c.tag
+    behind_place(c)
 }
 
 // The same of the records from one to another.
@@ -167,44 +182,59 @@ fn strays_among(table: &[u32], from: usize, to: usize) -> u32
     all
 }
 
-// The same of a stretch, whose touched blocks are sifted.
+// The same of so many records from k on, of which the touched blocks are listed.
 fn strays_within(table: &[u32], k: usize, size: usize, blocks: &[u8], count: usize) -> u32
-    requires { ⌜ (size ≤ 256) × (k + size ≤ records (now table)) ⌝ }
-    requires { ⌜ count ≤ length (now blocks) ⌝ }
-    requires { ⌜ Sifted (BlockFree (now table) k) (now blocks) count (size / 8) ⌝ }
+    requires { ⌜ Within (now table) k size (now blocks) count ⌝ }
+    requires { ⌜ Sifted (BlockFree (now table) k) (now blocks) count (size / block) ⌝ }
     ensures { λ r. ⌜ Strays (cellsOf (now (table .entry))) k (k + size) r ⌝ }
 {
     let mut all = 0;
     let mut j = 0;
     while j < count {
-        let from = k + (blocks[j] as usize) * 8;
-        all |= strays_among(table, from, from + 8);
+        let from = k + (blocks[j] as usize) * sift::BLOCK;
+        all |= strays_among(table, from, from + sift::BLOCK);
         j += 1;
     }
-    let rest = k + size / 8 * 8;
+    let rest = k + size / sift::BLOCK * sift::BLOCK;
     all | strays_among(table, rest, k + size)
 }
 
-// What is sifted of a stretch: how many live records, and what stands behind the places of the others.
-struct Sieved {
+// What a first look at a stretch tells: how many live records it lists, and what stands behind the places of the free ones.
+struct Survey {
     live: usize,
     strays: u32,
 }
 
-// Sieved the live records of the stretch from record k to record `end`, numbered from k on.
-fn sift_live(table: &[u32], k: usize, end: usize, list: &mut [u8; 256]) -> Sieved
-    requires { ⌜ (k ≤ end) × (end ≤ records (now table)) × (end ≤ k + 256) ⌝ }
-    requires { ⌜ length (now list) ≡ 256 ⌝ }
-    ensures { λ r. ⌜ Sifted (Lacks (now (table .entry)) k 4294967295) (now (list .exit)) (r .live) (end - k) ⌝ }
-    ensures { λ r. ⌜ Strays (cellsOf (now (table .entry))) k end (r .strays) ⌝ }
-    ensures { λ _. ⌜ length (now (list .exit)) ≡ 256 ⌝ }
+// Lists the live records of the stretch from record k to record `end`, numbered from k on.
+fn list_live(table: &[u32], k: usize, end: usize, list: &mut [u8; sift::STRETCH]) -> Survey
+    requires { ⌜ Stretch (now table) k end ⌝ }
+    requires { ⌜ length (now list) ≡ stretch ⌝ }
+    ensures { λ r. ⌜ Surveyed (now (table .entry)) k end (now (list .exit)) r ⌝ }
 {
     let size = end - k;
-    let mut blocks = [0u8; 32];
-    let count = sift_touched(table, k, size / 8, &mut blocks);
+    let mut blocks = [0u8; sift::BLOCKS];
+    let count = list_touched(table, k, size / sift::BLOCK, &mut blocks);
     let strays = strays_within(table, k, size, &blocks, count);
     let live = sift::sift_within(table, k, size, sift::LIVE, &blocks, count, list);
-    Sieved { live, strays }
+    Survey { live, strays }
+}
+
+// Whether record k is sound and alone, as those below it are; it is marked if it is.
+fn is_record_fit(
+    table: &[u32],
+    k: usize,
+    bounds: Bounds,
+    marks: &mut [u16; MARK_ROWS as usize],
+) -> bool
+    requires { ⌜ k < records (now table) ⌝ }
+    requires { ⌜ FitSoFar (soundBy bounds) (cellsOf (now table)) (now marks) k ⌝ }
+    ensures { λ r. ⌜ FitTo (soundBy bounds) (cellsOf (now (table .entry))) (now (marks .exit)) (k + 1) r ⌝ }
+{
+    let c = table::cell_at(table, k);
+    if !is_sound(c, bounds) {
+        return false;
+    }
+    is_alone_by(table, k, marks)
 }
 
 // Whether the records of a stretch are sound and alone, as those below it are; its live ones are marked.
@@ -212,28 +242,21 @@ fn is_stretch_fit(
     table: &[u32],
     k: usize,
     end: usize,
-    ports: u32,
-    t: Slot,
-    marks: &mut [u16; 1024],
+    bounds: Bounds,
+    marks: &mut [u16; MARK_ROWS as usize],
 ) -> bool
-    requires { ⌜ (k ≤ end) × (end ≤ records (now table)) × (end ≤ k + 256) ⌝ }
-    requires { ⌜ Passed ports t (cellsOf (now table)) (now marks) k ⌝ }
-    ensures { λ r. ⌜ (So r → Passed ports t (cellsOf (now (table .entry))) (now (marks .exit)) end) ⌝ }
-    ensures { λ r. ⌜ (No r → No (fit ports t (cellsOf (now (table .entry))))) ⌝ }
+    requires { ⌜ Stretch (now table) k end ⌝ }
+    requires { ⌜ FitSoFar (soundBy bounds) (cellsOf (now table)) (now marks) k ⌝ }
+    ensures { λ r. ⌜ FitTo (soundBy bounds) (cellsOf (now (table .entry))) (now (marks .exit)) end r ⌝ }
 {
-    let mut list = [0u8; 256];
-    let sieved = sift_live(table, k, end, &mut list);
-    if sieved.strays != 0 {
+    let mut list = [0u8; sift::STRETCH];
+    let found = list_live(table, k, end, &mut list);
+    if found.strays != 0 {
         return false;
     }
     let mut j = 0;
-    while j < sieved.live {
-        let i = k + (list[j] as usize);
-        let c = table::cell_at(table, i);
-        if !is_sound(c, ports, t) {
-            return false;
-        }
-        if !is_alone_by(table, i, marks) {
+    while j < found.live {
+        if !is_record_fit(table, k + (list[j] as usize), bounds, marks) {
             return false;
         }
         j += 1;
@@ -246,11 +269,12 @@ pub fn is_fit(table: &[u32], ports: u32, t: Slot) -> bool
     ensures { λ r. ⌜ r ≡ fit ports t (cellsOf (now (table .entry))) ⌝ }
 {
     let n = table::record_count(table);
-    let mut marks = [0u16; 1024];
+    let bounds = Bounds { ports, next: t };
+    let mut marks = [0u16; MARK_ROWS as usize];
     let mut k = 0;
     while k < n {
         let end = sift::stretch_end(k, n);
-        if !is_stretch_fit(table, k, end, ports, t, &mut marks) {
+        if !is_stretch_fit(table, k, end, bounds, &mut marks) {
             return false;
         }
         k = end;

@@ -1,85 +1,101 @@
--- The records below the next one sifted are sound and alone: those that are not sifted are free, where no word strays.
-use Prim.Native.Nat.{_+_, _≤_, _-_}
-use mathlib.Core.Path.{_≡_, refl, sym, ap, _∙_}
-use mathlib.Core.Bool.{false≢true}
+-- The records below the next one listed are sound and alone: those that are not listed are free, where there are no strays.
+use Prim.Native.Nat.{ℕ, _+_, _≤_, _<_, _-_}
+use mathlib.Core.Path.{_≡_, refl}
 use native.Mathlib.Omega.{arith}
-use native.Mathlib.Nat.{add-zero}
 use borrow.Author.Tests.{not-true, not-false}
+use lib.Bits.{bitAnd}
+use lib.ListN.{getD}
 use denote.Ref.{now}
-use Rattle.laws.specs.Tests.{join, fails-left, fails-right}
-use Rattle.laws.specs.Count.{every-more}
-use Rattle.laws.specs.Sifted.{past}
-use Rattle.rules.specs.Cells.{cellsOf, isSound}
-use Rattle.words.specs.Words.{in-words}
-use Rattle.sift.specs.Stretch.{past-more, sifted-inside}
-use Rattle.fit_check.specs.Marks.{Passed, passed-to, passed-end, unfit}
+use Rattle.rules.specs.Cells.{nth, records, cellsOf}
+use Rattle.sift.specs.Stretch.{liveBits, Pass, Turn, pass-begins, pass-turn, pass-more, pass-ends}
+use Rattle.fit_check.specs.Sound.{soundBy, soundBy-free}
+use Rattle.fit_check.specs.Walk.{FitWithin, fit-begins, fit-goes-on, fit-keeps, fit-told, fit-fails, stray-unfit}
 use Rattle.fit_check.proofs.is_stretch_fit.Statement.{statement}
 use Rattle.fit_check.proofs.is_stretch_fit.Tie as tie
 
 abbrev Inv-loop : tie.InvT-loop
-Inv-loop table k end ports t marks₀ list sieved j₀ marks j = (j ≤ sieved .live) × Passed ports t (cellsOf table) marks (k + past list j)
+Inv-loop table k end bounds marks₀ list found j₀ marks j =
+    Pass (FitWithin (soundBy bounds) (cellsOf table) k end marks) table k end liveBits list (found .live) j
 
 abbrev μ-loop : tie.MeasureT-loop
-μ-loop table k end ports t marks₀ list sieved j₀ marks j = sieved .live - j
+μ-loop table k end bounds marks₀ list found j₀ marks j = found .live - j
 
-sift-live-requires : tie.Need-sift-live-requires Inv-loop μ-loop
-sift-live-requires c κs = (c .before .before .pre .0, refl)
+abbrev entry : tie.After-list-live Inv-loop μ-loop → tie.Start Inv-loop μ-loop
+entry c = c .before .before .before
+
+-- the first look at the stretch
+abbrev look : tie.At-loop Inv-loop μ-loop → tie.After-list-live Inv-loop μ-loop
+look c = c .before .before .before
+
+-- every word of the table is one
+small : (c : tie.After-list-live Inv-loop μ-loop) → (i : ℕ) → getD (now (entry c .args .table)) i 0 ≤ liveBits
+small c i = omega (arith, c .before .before .shared-slice-known .given i)
+
+list-live-requires : tie.Need-list-live-requires Inv-loop μ-loop
+list-live-requires c κs = (c .before .before .pre .0, refl)
 
 returns : tie.Need-returns Inv-loop μ-loop
 returns c =
-    let s = c .before .before .sift-live .ensures .1 .0 .some (c .if1 .taken) in
-    (λ h. absurd (false≢true h), λ h. unfit _ _ _ (s .0) (omega (arith, s .1, c .before .before .before .before .before .pre .0 .1)) (fails-left _ _ (s .2 _ _)))
+    let a = c .before .before in
+    stray-unfit _ (soundBy-free (entry a .args .bounds)) _ _ _ (a .list-live .ensures .strays) (entry a .pre .0 .inside) (c .if1 .taken)
 
 loop-holds : tie.Need-loop-holds Inv-loop μ-loop
-loop-holds c = (omega arith, rw add-zero (c .before .before .before .before .before .pre .1))
+loop-holds c =
+    let a = c .before .before in
+    pass-begins (entry a .pre .0) (a .list-live .ensures .listed) (fit-begins (entry a .pre .1))
 
-array-read-i : tie.Need-array-read-i Inv-loop μ-loop
-array-read-i c = let d = c .before .before .before .before .before .sift-live .ensures in omega (arith, d .0 .few, d .1 .1, c .before .before .before .before .before .before .before .before .pre .0 .2, c .if2 .taken)
+-- what holds of the records below x before a turn, and is kept by one that is not listed
+abbrev within : tie.At-loop Inv-loop μ-loop → ℕ → Type 0
+within c = let a = entry (look c) .args in FitWithin (soundBy (a .bounds)) (cellsOf (now (a .table))) (a .k) (a .end) (c .loop .marks)
 
-cast-i : tie.Need-cast-i Inv-loop μ-loop
-cast-i c = omega (arith, c .before .before .before .before .before .sift-live .ensures .0 .rising (c .before .before .loop .j) (c .if2 .taken) .1, c .before .before .before .before .before .before .before .before .pre .0 .2)
+keeps : (c : tie.At-loop Inv-loop μ-loop) → let ws = now (entry (look c) .args .table) in
+    (x : ℕ) → x < records ws → bitAnd (nth (cellsOf ws) x .place) liveBits ≡ 0 → within c x → within c (x + 1)
+keeps c =
+    let a = look c in
+    fit-keeps _ (soundBy-free (entry a .args .bounds)) _ (a .list-live .ensures .strays) (c .before .if1 .left) (small a) (c .loop .marks)
 
-add-i : tie.Need-add-i Inv-loop μ-loop
-add-i c = record { fits = omega (arith, sifted-inside _ 4294967295 (c .before .before .before .before .before .sift-live .ensures .0) (c .before .before .before .before .before .before .before .before .pre .0 .0) (c .before .before .loop .j) (c .if2 .taken), in-words (now (c .before .before .before .before .before .before .before .before .args .table)) (c .before .before .before .before .before .before .before .before .pre .0 .1)) }
+-- a turn
+abbrev head : tie.Then2 Inv-loop μ-loop → tie.At-loop Inv-loop μ-loop
+head c = c .before .before
 
-cell-at-requires : tie.Need-cell-at-requires Inv-loop μ-loop
-cell-at-requires c κs = omega (arith, sifted-inside _ 4294967295 (c .before .before .before .before .before .sift-live .ensures .0) (c .before .before .before .before .before .before .before .before .pre .0 .0) (c .before .before .loop .j) (c .if2 .taken), c .before .before .before .before .before .before .before .before .pre .0 .1)
+turn : (c : tie.Then2 Inv-loop μ-loop) →
+    let a = look (head c) in
+    Turn (within (head c)) (now (entry a .args .table)) (entry a .args .k) (entry a .args .end) (a .list-live .last .1 .1 .1 .0) (head c .loop .j)
+turn c = pass-turn (head c .loop .inv) (keeps (head c)) (c .if2 .taken)
 
-is-sound-requires : tie.Need-is-sound-requires Inv-loop μ-loop
-is-sound-requires c κs = tt
+array-read-is-record-fit : tie.Need-array-read-is-record-fit Inv-loop μ-loop
+array-read-is-record-fit c = omega (arith, turn c .index, head c .loop .inv .listed .long)
+
+cast-is-record-fit : tie.Need-cast-is-record-fit Inv-loop μ-loop
+cast-is-record-fit c = omega (arith, turn c .small)
+
+add-is-record-fit : tie.Need-add-is-record-fit Inv-loop μ-loop
+add-is-record-fit c = omega (arith, turn c .here)
+
+is-record-fit-requires : tie.Need-is-record-fit-requires Inv-loop μ-loop
+is-record-fit-requires c κs = let t = turn (c .before) in (t .inside, t .below .below (omega (arith, t .here)))
 
 returns-2 : tie.Need-returns-2 Inv-loop μ-loop
-returns-2 c = (λ h. absurd (false≢true h), λ h. unfit _ _ _ _ (omega (arith, sifted-inside _ 4294967295 (c .before .before .before .before .before .before .before .before .sift-live .ensures .0) (c .before .before .before .before .before .before .before .before .before .before .before .pre .0 .0) (c .before .before .before .before .before .loop .j) (c .before .before .before .if2 .taken), c .before .before .before .before .before .before .before .before .before .before .before .pre .0 .1)) (fails-left _ _ (sym (c .before .is-sound .ensures ∙ ap (isSound _ _) (c .before .before .cell-at .ensures)) ∙ not-true _ (c .if3 .taken))))
+returns-2 c = fit-fails _ _ _ (c .before .is-record-fit .ensures) (not-true _ (c .if3 .taken))
 
-is-alone-by-requires : tie.Need-is-alone-by-requires Inv-loop μ-loop
-is-alone-by-requires c κs =
-    (omega (arith, sifted-inside _ 4294967295 (c .before .before .before .before .before .before .before .before .before .sift-live .ensures .0) (c .before .before .before .before .before .before .before .before .before .before .before .before .pre .0 .0) (c .before .before .before .before .before .before .loop .j) (c .before .before .before .before .if2 .taken), c .before .before .before .before .before .before .before .before .before .before .before .before .pre .0 .1), passed-to (now (c .before .before .before .before .before .before .before .before .before .before .before .before .args .table)) (c .before .before .before .before .before .before .before .before .before .sift-live .ensures .0) (c .before .before .before .before .before .before .before .before .before .before .before .before .pre .0 .0) (λ i. omega (arith, c .before .before .before .before .before .before .before .before .before .before .before .shared-slice-known .given i)) (c .before .before .before .before .before .before .before .before .before .before .before .before .pre .0 .1) (c .before .before .before .before .before .before .before .before .before .sift-live .ensures .1 .0) (c .before .before .before .before .before .before .before .if1 .left) _ _ _ (c .before .before .before .before .before .before .loop .j) (c .before .before .before .before .if2 .taken) (c .before .before .before .before .before .before .loop .inv .1) .seen)
-
-returns-3 : tie.Need-returns-3 Inv-loop μ-loop
-returns-3 c = (λ h. absurd (false≢true h), λ h. unfit _ _ _ _ (omega (arith, sifted-inside _ 4294967295 (c .before .before .before .before .before .before .before .before .before .before .before .sift-live .ensures .0) (c .before .before .before .before .before .before .before .before .before .before .before .before .before .before .pre .0 .0) (c .before .before .before .before .before .before .before .before .loop .j) (c .before .before .before .before .before .before .if2 .taken), c .before .before .before .before .before .before .before .before .before .before .before .before .before .before .pre .0 .1)) (fails-right (isSound _ _ _) _ (sym (c .before .is-alone-by .ensures .0) ∙ not-true _ (c .if4 .taken))))
+-- the turn that ends where the record was found fit
+abbrev past-test : tie.Else3 Inv-loop μ-loop → tie.Then2 Inv-loop μ-loop
+past-test c = c .before .before .before
 
 add-j : tie.Need-add-j Inv-loop μ-loop
-add-j c = omega (arith, c .before .before .before .before .before .before .if2 .taken)
+add-j c = omega (arith, past-test c .if2 .taken)
 
 loop-less : tie.Need-loop-less Inv-loop μ-loop
-loop-less c = omega (arith, c .before .before .before .before .before .before .if2 .taken)
+loop-less c = omega (arith, past-test c .if2 .taken)
 
 loop-again : tie.Need-loop-again Inv-loop μ-loop
 loop-again c =
-    let p = passed-to (now (c .before .before .before .before .before .before .before .before .before .before .before .before .before .before .args .table)) (c .before .before .before .before .before .before .before .before .before .before .before .sift-live .ensures .0) (c .before .before .before .before .before .before .before .before .before .before .before .before .before .before .pre .0 .0) (λ i. omega (arith, c .before .before .before .before .before .before .before .before .before .before .before .before .before .shared-slice-known .given i)) (c .before .before .before .before .before .before .before .before .before .before .before .before .before .before .pre .0 .1) (c .before .before .before .before .before .before .before .before .before .before .before .sift-live .ensures .1 .0) (c .before .before .before .before .before .before .before .before .before .if1 .left) _ _ _ (c .before .before .before .before .before .before .before .before .loop .j) (c .before .before .before .before .before .before .if2 .taken) (c .before .before .before .before .before .before .before .before .loop .inv .1) in (
-      omega (arith, c .before .before .before .before .before .before .if2 .taken),
-      rw (past-more (c .before .before .before .before .before .before .before .before .before .before .before .sift-live .last .1 .1 .1 .0) (c .before .before .before .before .before .before .before .before .before .before .before .before .before .before .args .k) (c .before .before .before .before .before .before .before .before .loop .j)) (record {
-        good = every-more _ _ (p .good) (join _ _ (sym (c .before .before .before .before .is-sound .ensures ∙ ap (isSound _ _) (c .before .before .before .before .before .cell-at .ensures)) ∙ not-false _ (c .before .before .before .if3 .left)) (sym (c .before .is-alone-by .ensures .0) ∙ not-false _ (c .if4 .left)));
-        seen = c .before .is-alone-by .ensures .1;
-      }),
-    )
+    let t = past-test c in
+    pass-more (head t .loop .inv) (t .if2 .taken)
+    (fit-goes-on (omega (arith, turn t .below .from)) (c .before .is-record-fit .ensures .fits (not-false _ (c .if3 .left))))
 
-returns-4 : tie.Need-returns-4 Inv-loop μ-loop
-returns-4 c =
-    let i = c .before .before .loop in
-    let d = c .before .before .before .before .before .sift-live in
-    let e : i .j ≡ d .result .live = omega (arith, i .inv .0, c .if2 .left) in
-    (λ h. passed-end (now (c .before .before .before .before .before .before .before .before .args .table)) (d .ensures .0) (c .before .before .before .before .before .before .before .before .pre .0 .0) (λ i. omega (arith, c .before .before .before .before .before .before .before .shared-slice-known .given i)) (c .before .before .before .before .before .before .before .before .pre .0 .1) (d .ensures .1 .0) (c .before .before .before .if1 .left) _ _ _ (rw e at (i .inv .1)), λ h. absurd (false≢true (sym h)))
+returns-3 : tie.Need-returns-3 Inv-loop μ-loop
+returns-3 c = let h = c .before .before in fit-told _ _ _ (pass-ends (h .loop .inv) (keeps h) (c .if2 .left) .below (omega arith))
 
 pub is-stretch-fit-spec : {M : Type 1} → statement M
 is-stretch-fit-spec =
@@ -87,18 +103,15 @@ is-stretch-fit-spec =
     (tie.spec
     Inv-loop
     μ-loop
-    sift-live-requires
+    list-live-requires
     returns
     loop-holds
-    array-read-i
-    cast-i
-    add-i
-    cell-at-requires
-    is-sound-requires
+    array-read-is-record-fit
+    cast-is-record-fit
+    add-is-record-fit
+    is-record-fit-requires
     returns-2
-    is-alone-by-requires
-    returns-3
     add-j
     loop-less
     loop-again
-    returns-4)
+    returns-3)
