@@ -1,4 +1,5 @@
 -- What a walk does with a slice of records.
+--     bytes            how many a record has, four a word
 --     fits             the offset of a record of the slice fits a usize
 --     val, typed       a record's machine value, and that it has the record's MIR type
 --     lent, Lent       the slice of ys at (b, o), under the ghost name γ, and what it owns for the lifetime κ
@@ -28,12 +29,15 @@ use denote.Ref.{RefT}
 use denote.Slice.{sliceVal, ShrSlice, Room, heres, codedHoleys, at-slice}
 use denote.Index.{place, others, elem-out, elem-back, looks-slice, shuts-slice}
 use denote.Struct.Laws as LL
-use Rattle.rules.specs.Cells.{free, nth}
+use Rattle.rules.specs.Cells.{free, nth, width}
 use Rattle.rules.specs.declared.Cell.{Cell}
 use Rattle.rules.proofs.Cell as T
 use Rattle.rules.proofs.Cell.Laws as T′
 
-pub fits : {n k : ℕ} → Room T.the-row n → k < n → k * 20 < 2 ^ 64
+abbrev pub bytes : ℕ
+bytes = width * 4
+
+pub fits : {n k : ℕ} → Room T.the-row n → k < n → k * bytes < 2 ^ 64
 fits {n} {k} g l = omega (arith, g .1, l)
 
 abbrev pub val : Cell → Val
@@ -50,7 +54,7 @@ Lent κ b o γ ys = ShrSlice (named 0) κ T.the-row .own (lent b o γ ys) (slice
 
 -- what stands in the place of those two while record k is seen
 abbrev pub Seen : {M : Type 1} (𝓤 : URA M) → Lft → Share → Share → ℕ → ℕ → GName → List Cell → ℕ → List (Item 𝓤) → List (Item 𝓤)
-Seen 𝓤 κ q q′ b o γ ys k Γ = ‵ (cellAt q′ (T.the-row .mir) (val (nth ys k) ∷ []) b (place 20 o k)) ∷ ‵ (T.the-row .own (nth ys k) (val (nth ys k) ∷ [])) ∷ ‵ (others (shares T.the-row) q′ ys k b o)
+Seen 𝓤 κ q q′ b o γ ys k Γ = ‵ (cellAt q′ (T.the-row .mir) (val (nth ys k) ∷ []) b (place bytes o k)) ∷ ‵ (T.the-row .own (nth ys k) (val (nth ys k) ∷ [])) ∷ ‵ (others (shares T.the-row) q′ ys k b o)
     ∷ ‵ (fobor κ q (arr-parts (shares T.the-row) (length ys) .part q′ ys b o)) ∷ ‵ (fshr-bor κ (λ s. arr-parts (shares T.the-row) (length ys) .part s ys b o))
     ∷ ‵ (fres γ (codedHoleys T.the-row .code (heres T.the-row ys))) ∷ ‵ (at-slice T.the-row (lent b o γ ys) (sliceVal (b, o) (length ys) ∷ [])) ∷ Γ
 

@@ -11,11 +11,13 @@ use lib.ListN.{length, getD, set, take, length-set}
 use lib.Seq.{ext-getD, getD-take, getD-set-same, getD-set-other, length-take-le}
 use borrow.Author.Tests.{leb-true, leb-false, le-leb, lt-leb, eqb-true, eqb-false}
 use Rattle.laws.specs.Tests.{passes}
+use Rattle.laws.specs.Lists.{sets-inside}
 use Rattle.laws.specs.declared.Found.{Found}
 use Rattle.rules.specs.declared.Cell.{Cell}
-use Rattle.rules.specs.Cells.{mostRecords, width, nth, fields, cellsOf, wordsOf}
-use Rattle.words.specs.Words.{length-wordsOf, wordsOf-at, cellsOf-wordsOf}
-use Rattle.records.specs.Records.{findingOf, answered, wordsToLay, Laid}
+use Rattle.rules.specs.Cells.{mostRecords, width, records, nth, fields, cellsOf, wordsOf}
+use Rattle.words.specs.Words.{length-wordsOf, wordsOf-at, cellsOf-wordsOf, store-with}
+use Rattle.table.specs.Table.{stored}
+use Rattle.records.specs.Records.{findingOf, tableWords, answered, wordsToLay, Laid}
 use Rattle.records.specs.declared.Finding.the-variants.{TooMany}
 
 -- the words to lay are no more than there are, and no more than there is room for
@@ -23,16 +25,23 @@ pub within-records : (n : ℕ) → wordsToLay n ≤ n * width
 unfolding wordsToLay
 within-records n = ⊎-elim (λ few. rw few (omega arith)) (λ many. rw many (omega arith)) (passes (leb n mostRecords))
 
-pub within-room : (n : ℕ) → wordsToLay n ≤ mostRecords * width
+pub within-room : (n : ℕ) → wordsToLay n ≤ tableWords
 unfolding wordsToLay
 within-room n = ⊎-elim (λ few. let l : n ≤ mostRecords = leb-true n mostRecords few in rw few (omega arith)) (λ many. rw many (omega arith)) (passes (leb n mostRecords))
 
+-- of a table of one record the words are its fields
+pub alone : (ws : List ℕ) (c : Cell) (r : ℕ) → length ws ≡ width → r < width → getD (stored ws 0 c) r 0 ≡ getD (fields c) r 0
+unfolding records
+alone ws c r e l =
+    let q : 0 + r ≡ r = omega arith in
+    ap (λ (vs : List ℕ). getD vs r 0) (sym (store-with ws 0 (omega arith) c)) ∙ (rw q at (sets-inside 0 (fields c) ws 0 r (omega arith) l))
+
 -- the first j words of ws are those of cs
 pub record LaidTo (cs : List Cell) (j : ℕ) (ws : List ℕ) : Type 0 where
-  pub long : length ws ≡ mostRecords * width
+  pub long : length ws ≡ tableWords
   pub same : (i : ℕ) → i < j → getD ws i 0 ≡ getD (wordsOf cs) i 0
 
-pub none-laid : (cs : List Cell) (ws : List ℕ) → length ws ≡ mostRecords * width → LaidTo cs 0 ws
+pub none-laid : (cs : List Cell) (ws : List ℕ) → length ws ≡ tableWords → LaidTo cs 0 ws
 none-laid cs ws e = record { long = e; same = λ i l. absurd (omega arith) }
 
 -- word j is field j % width of record j / width

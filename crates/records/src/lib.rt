@@ -10,7 +10,10 @@ ghost use Rattle.rules.specs.Cells.{mostRecords, width, fields, cellsOf};
 ghost use Rattle.rules.specs.Phases.{lowestFree, oldestReady};
 ghost use Rattle.records.specs.Records.{findingOf, answered, lowestFreeOf, oldestReadyOf, wordsToLay, Laid};
 
-// What a scan over records answers: what it found, or that the list has more than 1,024 records.
+// The words of as many records as a table may have.
+const TABLE_WORDS: usize = rules::MOST_RECORDS * rules::RECORD_WORDS;
+
+// What a scan over records answers: what it found, or that the list has more records than a table may.
 pub enum Finding {
     At(usize),
     Nothing,
@@ -26,52 +29,41 @@ fn told(found: Found) -> Finding
     }
 }
 
-// The word of record c that stands at word j of a table.
+// The word of record c that stands at word j of a table: one of a table of this record alone.
 fn word_of(c: Cell, j: usize) -> u32
     ensures { λ r. ⌜ r ≡ getD (fields c) (j % width) 0 ⌝ }
 {
-    let field = j % 5;
-    if field == 0 {
-        return c.place;
-    }
-    if field == 1 {
-        return c.input.0;
-    }
-    if field == 2 {
-        return c.output.0;
-    }
-    if field == 3 {
-        return c.entered.0;
-    }
-    c.tag
+    let mut words = [0; rules::RECORD_WORDS];
+    table::put_cell(&mut words, 0, c);
+    words[j % rules::RECORD_WORDS]
 }
 
 // The words of n records; none of too many.
 fn words_to_lay(n: usize) -> usize
     ensures { λ r. ⌜ r ≡ wordsToLay n ⌝ }
 {
-    if 1024 < n {
+    if rules::MOST_RECORDS < n {
         return 0;
     }
-    n * 5
+    n * rules::RECORD_WORDS
 }
 
 // The records, laid out as words.
-fn lay_out(cells: &[Cell]) -> [u32; 5120]
+fn lay_out(cells: &[Cell]) -> [u32; TABLE_WORDS]
     ensures { λ r. ⌜ Laid (now (cells .entry)) r ⌝ }
 {
-    let mut words = [0; 5120];
+    let mut words = [0; TABLE_WORDS];
     let end = words_to_lay(cells.len());
     let mut j = 0;
     while j < end {
-        words[j] = word_of(cells[j / 5], j);
+        words[j] = word_of(cells[j / rules::RECORD_WORDS], j);
         j = j + 1;
     }
     words
 }
 
 // The first n records of a table that is held by value, laid out as words.
-fn lay_out_first(table: [Cell; 1024], n: usize) -> [u32; 5120]
+fn lay_out_first(table: [Cell; rules::MOST_RECORDS], n: usize) -> [u32; TABLE_WORDS]
     requires { ⌜ n ≤ mostRecords ⌝ }
     ensures { λ r. ⌜ Laid (take n table) r ⌝ }
 {
@@ -79,22 +71,22 @@ fn lay_out_first(table: [Cell; 1024], n: usize) -> [u32; 5120]
 }
 
 // The scans of the first n records of words laid out.
-fn lowest_free_in(words: [u32; 5120], n: usize) -> Finding
+fn lowest_free_in(words: [u32; TABLE_WORDS], n: usize) -> Finding
     ensures { λ r. ⌜ r ≡ answered n (lowestFree (cellsOf (take (n * width) words))) ⌝ }
 {
-    if 1024 < n {
+    if rules::MOST_RECORDS < n {
         return Finding::TooMany;
     }
-    told(table::lowest_free(&words[..n * 5]))
+    told(table::lowest_free(&words[..n * rules::RECORD_WORDS]))
 }
 
-fn oldest_ready_in(words: [u32; 5120], n: usize, o: Output) -> Finding
+fn oldest_ready_in(words: [u32; TABLE_WORDS], n: usize, o: Output) -> Finding
     ensures { λ r. ⌜ r ≡ answered n (oldestReady (cellsOf (take (n * width) words)) o) ⌝ }
 {
-    if 1024 < n {
+    if rules::MOST_RECORDS < n {
         return Finding::TooMany;
     }
-    told(table::oldest_ready(&words[..n * 5], o))
+    told(table::oldest_ready(&words[..n * rules::RECORD_WORDS], o))
 }
 
 // The lowest-numbered free record.
@@ -114,19 +106,19 @@ pub fn oldest_ready(cells: &[Cell], o: Output) -> Finding
 }
 
 // The same of the first n records of a table by value: whoever calls these lends no slice of records.
-pub fn lowest_free_of(table: [Cell; 1024], n: usize) -> Finding
+pub fn lowest_free_of(table: [Cell; rules::MOST_RECORDS], n: usize) -> Finding
     ensures { λ r. ⌜ r ≡ answered n (lowestFree (take n table)) ⌝ }
 {
-    if 1024 < n {
+    if rules::MOST_RECORDS < n {
         return Finding::TooMany;
     }
     lowest_free_in(lay_out_first(table, n), n)
 }
 
-pub fn oldest_ready_of(table: [Cell; 1024], n: usize, o: Output) -> Finding
+pub fn oldest_ready_of(table: [Cell; rules::MOST_RECORDS], n: usize, o: Output) -> Finding
     ensures { λ r. ⌜ r ≡ answered n (oldestReady (take n table) o) ⌝ }
 {
-    if 1024 < n {
+    if rules::MOST_RECORDS < n {
         return Finding::TooMany;
     }
     oldest_ready_in(lay_out_first(table, n), n, o)

@@ -49,11 +49,11 @@ use Rattle.rules.specs.declared.Cell.{Cell}
 use Rattle.rules.specs.Cells.{width, nth, fields}
 use Rattle.rules.proofs.Cell as T
 use Rattle.rules.proofs.Cell.Laws as T′
-use Rattle.records.specs.Records.{wordsToLay, Laid}
+use Rattle.records.specs.Records.{tableWords, wordsToLay, Laid}
 use Rattle.records.specs.Layout.{within-records, within-room, LaidTo, none-laid, one-more, all-laid}
 use Rattle.records.proofs.Arrays.{opens-array, closes-array, Words, words-ok, words-make}
 use Rattle.records.proofs.Calls.{calls-plain}
-use Rattle.records.proofs.Rows.{fits, val, typed, Lent, lent, looks-at, shuts-at, tests-while}
+use Rattle.records.proofs.Rows.{bytes, fits, val, typed, Lent, lent, looks-at, shuts-at, tests-while}
 use Rattle.records.proofs.word_of as word-of
 use Rattle.records.proofs.word_of.Symbol as word-of-def
 use Rattle.records.proofs.word_of.Symbol.{name as #records·word-of}
@@ -85,7 +85,7 @@ abbrev slice : Ty
 slice = sliceTy (tyRef (named 0) imm (pointee (T.the-row .written)))
 
 abbrev array : Ty
-array = tyArray (tyInt w32) 5120
+array = tyArray (tyInt w32) tableWords
 
 module _ {M : Type 1} (𝓤 : URA M) (H : Heap 𝓤) (A : Atoms 𝓤) (mem : Memory → SProp 𝓤) (run : Routine → Fun 𝓤) where
   -- the contracts that the proof cites, and of what each ensures the clause alone
@@ -178,13 +178,13 @@ module _ {M : Type 1} (𝓤 : URA M) (H : Heap 𝓤) (A : Atoms 𝓤) (W : Given
         assigns ! (bin ! (load ! (from ! (stop !)) (look ! 23 refl)) (lit ! tt) (lit< tt)) (from ! (stop !)) (init ! 15 refl (tt, record { fits = part-fits less })) $
         assigns ! (bin ! (load ! (from ! (stop !)) (look ! 15 refl)) (lit ! tt) (record { fits = fits gn (its-record less) })) (from ! (stop !)) (init ! 13 refl (tt, record { fits = fits gn (its-record less) })) $
         assigns ! (bin ! (load ! (from ! (fld ! refl (stop !))) (look-in ! 28 (sub ! 0 refl (whole !)))) (load ! (from ! (stop !)) (look ! 13 refl)) tt) (from ! (stop !)) (init ! 11 refl (tt, tt)) $
-        rewrite ! 11 (λ (p : ℕ). ‵ (fat fullShare tyPtr m₀ 0 (vptr b p))) (sym (place-is 20 o (t .j / 5))) refl $
-        looks-at ! tt b o γ ys (t .j / 5) (its-record less) (λ q′ g.
+        rewrite ! 11 (λ (p : ℕ). ‵ (fat fullShare tyPtr m₀ 0 (vptr b p))) (sym (place-is bytes o (t .j / width))) refl $
+        looks-at ! tt b o γ ys (t .j / width) (its-record less) (λ q′ g.
         -- five entries more in front: _11 stands at 14, and _10 at 16
-        assigns ! (of-opd ! (load ! (from ! (hop ! (look ! 16 refl) (stop !))) (look-raw ! 0 refl))) (from ! (stop !)) (init ! 14 refl (typed 𝓤 H A W (nth ys (t .j / 5)) g)) $
-        shuts-at ! tt b o γ ys (t .j / 5) (its-record less) $
-        calls-plain ! (fmOf 𝓤 H (W .laws) 𝓣) (WordOf 𝓤 H A mem run) known-word (to-word 𝓤 H A mem run W (nth ys (t .j / 5)) (t .j)) u32
-        (asks-word 𝓤 H A mem run W (nth ys (t .j / 5)) (t .j) g (j-fits less)) (said-word 𝓤 H A mem run (nth ys (t .j / 5)) (t .j)) (λ u. id⊢ 𝓤 _)
+        assigns ! (of-opd ! (load ! (from ! (hop ! (look ! 16 refl) (stop !))) (look-raw ! 0 refl))) (from ! (stop !)) (init ! 14 refl (typed 𝓤 H A W (nth ys (t .j / width)) g)) $
+        shuts-at ! tt b o γ ys (t .j / width) (its-record less) $
+        calls-plain ! (fmOf 𝓤 H (W .laws) 𝓣) (WordOf 𝓤 H A mem run) known-word (to-word 𝓤 H A mem run W (nth ys (t .j / width)) (t .j)) u32
+        (asks-word 𝓤 H A mem run W (nth ys (t .j / width)) (t .j) g (j-fits less)) (said-word 𝓤 H A mem run (nth ys (t .j / width)) (t .j)) (λ u. id⊢ 𝓤 _)
         (and-then ! (load ! (from ! (stop !)) (look ! 10 refl)) (and-then ! (load ! (from ! (stop !)) (look ! 24 refl)) (no-more !))) (λ r u e is.
         land ! (from ! (stop !)) (init ! 17 refl (uint-lawful 𝓤 H A W w32 .typed r (u ∷ []) is .0)) $
         -- the word goes to word j of the array
@@ -200,7 +200,7 @@ module _ {M : Type 1} (𝓤 : URA M) (H : Heap 𝓤) (A : Atoms 𝓤) (W : Given
         forget ! 3 refl $ forget ! 5 refl $ forget ! 7 refl $ forget ! 9 refl $ forget ! 11 refl $ forget ! 13 refl $ forget ! 15 refl $ forget ! 17 refl $ forget ! 19 refl $
         again ! Nearer Inv t (record { j = t .j + 1; zs = set (t .zs) (t .j) r; within = add-one-le (below less); so-far = one-more ys (t .j) (t .zs) r (below less) e (t .so-far) }) (add-one-dec end (t .j) (below less))))))
         (λ over. exec ! C Λ En code-mir.t-6 (atRet En Post) $ move ! (2 ∷ []) $
-        use1 W (some (λ (v : Val). given (Is Words (t .zs) (v ∷ [])) (‵ (fat fullShare array l₂ 0 v)))) (closes-array 𝓤 H A W u32 tt 5120 (t .zs) (t .so-far .long) l₂) $ pick ! (λ v. learn ! (λ is.
+        use1 W (some (λ (v : Val). given (Is Words (t .zs) (v ∷ [])) (‵ (fat fullShare array l₂ 0 v)))) (closes-array 𝓤 H A W u32 tt tableWords (t .zs) (t .so-far .long) l₂) $ pick ! (λ v. learn ! (λ is.
         -- [the array; the token; what cells owns; room for _14; …]
         assigns ! (of-opd ! (load ! (from ! (stop !)) (look ! 0 refl))) (from ! (stop !)) (init ! 30 refl (words-ok 𝓤 H A W (t .zs) v is)) $
         returns ! (look ! 30 refl) $ forget ! 0 refl $ forget ! 19 refl $ forget ! 23 refl $ forget ! 25 refl $ forget ! 28 refl $ forget ! 30 refl $
@@ -211,7 +211,7 @@ module _ {M : Type 1} (𝓤 : URA M) (H : Heap 𝓤) (A : Atoms 𝓤) (W : Given
         below : Holds (ltb (t .j) end) → t .j < end
         below less = ltb→lt (t .j) end less
 
-        its-record : Holds (ltb (t .j) end) → t .j / 5 < n
+        its-record : Holds (ltb (t .j) end) → t .j / width < n
         its-record less = omega (arith, below less, within-records n)
 
         in-array : Holds (ltb (t .j) end) → t .j < length (t .zs)
@@ -220,7 +220,7 @@ module _ {M : Type 1} (𝓤 : URA M) (H : Heap 𝓤) (A : Atoms 𝓤) (W : Given
         j-fits : Holds (ltb (t .j) end) → t .j < 2 ^ 64
         j-fits less = omega (arith, below less, within-room n)
 
-        part-fits : Holds (ltb (t .j) end) → t .j / 5 < 2 ^ 64
+        part-fits : Holds (ltb (t .j) end) → t .j / width < 2 ^ 64
         part-fits less = omega (arith, below less, within-room n)
 
         four-fits : Holds (ltb (t .j) end) → t .j * 4 < 2 ^ 64
@@ -237,10 +237,10 @@ module _ {M : Type 1} (𝓤 : URA M) (H : Heap 𝓤) (A : Atoms 𝓤) (W : Given
     starts : Sq W Start (runs C Λ En code-mir.t-1 (atRet En Post))
     starts =
         owned ! u32 (Is u32) (uint-makes 𝓤 H A W w32) 0 (vint w32 0 ∷ []) (refl, lit< tt) $
-        use1 W (‵ (Words .own (replicate 5120 0) (arrayVal (replicate 5120 (vint w32 0)) ∷ []))) (array-repeat 𝓤 H A W u32 (uint-copy 𝓤 H A W w32) 5120 0 (vint w32 0)) $
-        peeks ! Words (Is Words) (shows 𝓤 H A Words) (replicate 5120 0) (arrayVal (replicate 5120 (vint w32 0)) ∷ []) (λ is.
-        assigns ! (rep ! 5120 (lit ! tt)) (from ! (stop !)) (init ! 25 refl (words-ok 𝓤 H A W (replicate 5120 0) (arrayVal (replicate 5120 (vint w32 0))) is)) $
-        move ! (25 ∷ 0 ∷ []) $ use2 W (given (length (replicate {A = ℕ} 5120 0) ≡ 5120) (‵ (row u32 fullShare (replicate 5120 0) l₂ 0))) (opens-array 𝓤 H A W u32 tt 5120 (replicate 5120 0) (arrayVal (replicate 5120 (vint w32 0))) l₂) $ learn ! (λ long.
+        use1 W (‵ (Words .own (replicate tableWords 0) (arrayVal (replicate tableWords (vint w32 0)) ∷ []))) (array-repeat 𝓤 H A W u32 (uint-copy 𝓤 H A W w32) tableWords 0 (vint w32 0)) $
+        peeks ! Words (Is Words) (shows 𝓤 H A Words) (replicate tableWords 0) (arrayVal (replicate tableWords (vint w32 0)) ∷ []) (λ is.
+        assigns ! (rep ! tableWords (lit ! tt)) (from ! (stop !)) (init ! 25 refl (words-ok 𝓤 H A W (replicate tableWords 0) (arrayVal (replicate tableWords (vint w32 0))) is)) $
+        move ! (25 ∷ 0 ∷ []) $ use2 W (given (length (replicate {A = ℕ} tableWords 0) ≡ tableWords) (‵ (row u32 fullShare (replicate tableWords 0) l₂ 0))) (opens-array 𝓤 H A W u32 tt tableWords (replicate tableWords 0) (arrayVal (replicate tableWords (vint w32 0))) l₂) $ learn ! (λ long.
         -- [the words; _14; …; _3; …; that the array dies; _1; …; _0; …; the token; what the parameter owns]
         assigns ! (of-opd ! (load ! (from ! (fld ! refl (stop !))) (look-in ! 26 (sub ! 1 refl (whole !))))) (from ! (stop !)) (init ! 19 refl (tt, record { fits = gn .0 })) $
         calls-plain ! (fmOf 𝓤 H (W .laws) 𝓣) (ToLay 𝓤 H A mem run) known-end (to-end 𝓤 H A mem run W n) usize (asks-end 𝓤 H A mem run W n (gn .0)) (said-end 𝓤 H A mem run n) (λ u. id⊢ 𝓤 _)
@@ -250,7 +250,7 @@ module _ {M : Type 1} (𝓤 : URA M) (H : Heap 𝓤) (A : Atoms 𝓤) (W : Given
         assigns ! (of-opd ! (lit ! tt)) (from ! (stop !)) (init ! 21 refl (tt, record { fits = lit< tt })) $
         forget ! 19 refl $ move ! (31 ∷ []) $ fsplit ! $ move ! (32 ∷ []) $ split ! $
         keep ! (0 ∷ 2 ∷ 4 ∷ 5 ∷ 6 ∷ 7 ∷ 8 ∷ 9 ∷ 10 ∷ 11 ∷ 12 ∷ 13 ∷ 14 ∷ 15 ∷ 16 ∷ 17 ∷ 18 ∷ 19 ∷ 20 ∷ 21 ∷ 22 ∷ 23 ∷ 24 ∷ 25 ∷ 26 ∷ 27 ∷ 28 ∷ 29 ∷ 30 ∷ 31 ∷ 32 ∷ 33 ∷ []) $
-        first ! $ blocks ! $ loops ! 𝓣 Nearer Nearer-wf Inv turns (record { j = 0; zs = replicate 5120 0; within = zero-le; so-far = none-laid ys (replicate 5120 0) long }))))
+        first ! $ blocks ! $ loops ! 𝓣 Nearer Nearer-wf Inv turns (record { j = 0; zs = replicate tableWords 0; within = zero-le; so-far = none-laid ys (replicate tableWords 0) long }))))
 
   walk : (𝓣 : Tables 𝓤 H) → Triple 𝓤 (𝓣 .C #records·word-of) (WordOf 𝓤 H A mem run) → Triple 𝓤 (𝓣 .C #records·words-to-lay) (ToLay 𝓤 H A mem run)
       → ent 𝓤 (onEntry 𝓤 H A lay-out.signature (κ, tt) (q, tt) x at) (WpFn 𝓤 H (𝓣 .C) (𝓣 .Λ) code.function (sliceVal (b, o) n ∷ []) Post)

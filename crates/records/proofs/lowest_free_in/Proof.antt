@@ -4,6 +4,7 @@ use native.Mathlib.Omega.{arith}
 use mathlib.Core.Path.{ap, _∙_}
 use lib.ListN.{length-take}
 use borrow.Author.Needs.{needs}
+use Rattle.rules.specs.Cells.{width}
 use Rattle.records.specs.Records.{findingOf}
 use Rattle.records.specs.Layout.{too-many, not-too-many}
 use Rattle.records.proofs.lowest_free_in.Statement.{statement}
@@ -19,7 +20,7 @@ array-share-prefix-words : tie.Need-array-share-prefix-words
 array-share-prefix-words c = search needs
 
 slice-aggregate-lowest-free : tie.Need-slice-aggregate-lowest-free
-slice-aggregate-lowest-free c = omega (arith, length-take (c .before .before .args .n * 5) (c .before .before .args .t1))
+slice-aggregate-lowest-free c = omega (arith, length-take (c .before .before .args .n * width) (c .before .before .args .t1))
 
 lowest-free-requires : tie.Need-lowest-free-requires
 lowest-free-requires c κs = search needs

@@ -4,6 +4,7 @@ use native.Mathlib.Omega.{arith}
 use mathlib.Core.Path.{ap, _∙_}
 use lib.ListN.{length-take}
 use borrow.Author.Needs.{needs}
+use Rattle.rules.specs.Cells.{width}
 use Rattle.records.specs.Records.{findingOf}
 use Rattle.records.specs.Layout.{too-many, not-too-many}
 use Rattle.records.proofs.oldest_ready_in.Statement.{statement}
@@ -19,7 +20,7 @@ array-share-prefix-words : tie.Need-array-share-prefix-words
 array-share-prefix-words c = search needs
 
 slice-aggregate-oldest-ready : tie.Need-slice-aggregate-oldest-ready
-slice-aggregate-oldest-ready c = omega (arith, length-take (c .before .before .args .n * 5) (c .before .before .args .t1))
+slice-aggregate-oldest-ready c = omega (arith, length-take (c .before .before .args .n * width) (c .before .before .args .t1))
 
 oldest-ready-requires : tie.Need-oldest-ready-requires
 oldest-ready-requires c κs = search needs
