@@ -14,9 +14,9 @@ use borrow.Author.Tests.{eqb-true, eqb-false}
 use Rattle.laws.specs.Tests.{No, passes, refuted, to-no, both, join, denied, deny, same-test}
 use Rattle.laws.specs.Walk.{over, over-more}
 use Rattle.laws.specs.Count.{any, any→, →any}
-use Rattle.laws.specs.Least.{least, least-same, least-at}
+use Rattle.laws.specs.Least.{least, least-same}
 use Rattle.laws.specs.declared.Found.{Found}
-use Rattle.laws.specs.declared.Found.the-variants.{At, Nothing}
+use Rattle.laws.specs.declared.Found.the-variants.{Nothing}
 use Rattle.ports.specs.Ports.{has, Added}
 use Rattle.ports.specs.PortLaws.{has-none}
 use Rattle.rules.specs.declared.Cell.{Cell}
@@ -137,10 +137,6 @@ module _ (r : List ℕ) (cs : List Cell) where
   pub picks-all : (n : ℕ) → picks r cs n ≡ matchOf n r cs
   unfolding matchOf
   picks-all n = refl
-
-  pub open-found : (p : ℕ → Bool) (k : ℕ) → firstOpen r cs p ≡ At k → (k < length cs) × So (isOpen cs p k)
-  unfolding firstOpen
-  open-found p k e = least-at (isOpen cs p) (λ i j. before r (nth cs i) (nth cs j)) (length cs) k e
 
 candidate-same : (a b c d : ℕ → Bool) → ((i : ℕ) → a i ≡ b i) → ((i : ℕ) → c i ≡ d i) → (x : Cell) → candidate a c x ≡ candidate b d x
 unfolding candidate waitsAmong

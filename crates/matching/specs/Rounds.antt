@@ -9,7 +9,6 @@ use mathlib.Core.List.{List}
 use native.Mathlib.Omega.{arith}
 use lib.Dec.{eqb, ltb}
 use lib.ListN.{length, set, length-set}
-use lib.Seq.{getD-set-same, getD-set-other}
 use borrow.Author.Tests.{eqb-true, eqb-false, eq-eqb, ltb-true, ltb-false}
 use Rattle.laws.specs.Tests.{No, passes, refuted, to-no, both, join, denied, deny, same-test, cond-true, cond-false}
 use Rattle.laws.specs.Walk.{over-zero}
@@ -23,9 +22,11 @@ use Rattle.laws.specs.declared.Found.the-variants.{At, Nothing}
 use Rattle.ports.specs.Ports.{maskPorts, has, withPort, Except}
 use Rattle.ports.specs.PortLaws.{has-none, has-nobody, none-inside, added, added-also, added-kept, except-in, except-out}
 use Rattle.rules.specs.declared.Cell.{Cell}
-use Rattle.rules.specs.Cells.{mostPorts, free, placed, nth, outputOf, isWaiting, older, before, readingFor, cellsOf}
+use Rattle.rules.specs.Cells.{mostPorts, placed, nth, outputOf, isWaiting, older, before, readingFor, cellsOf}
 use Rattle.rules.specs.Phases.{isOpen, firstOpen}
 use Rattle.words.specs.Words.{length-cellsOf, same-records}
+use Rattle.ideal.specs.Match.{open-found}
+use Rattle.ideal.specs.Phases.{placed-waits}
 use Rattle.ideal.specs.Cells.{waiting→, older-ranks, before-ranks}
 use Rattle.queues.specs.Layout.{named, named-name, isFound, headWord, senders, wanted}
 use Rattle.queues.specs.Queues.{waitsFor, waits→, →waits, headBelow, headOf, All, Queues}
@@ -34,7 +35,7 @@ use Rattle.queues.specs.Heads.{head-below}
 use Rattle.matching.specs.declared.Taken.{Taken}
 use Rattle.matching.specs.declared.Lowest.{Lowest}
 use Rattle.matching.specs.Ready.{Orderly, Takeable}
-use Rattle.matching.specs.Picking.{waitsAmong, candidate, firstCandidate, Takes, Shows, Picked, picks, picks-more, picks-all, stops, open-found, open-waits}
+use Rattle.matching.specs.Picking.{waitsAmong, candidate, firstCandidate, Takes, Shows, Picked, picks, picks-more, picks-all, stops, open-waits}
 use Rattle.matching.specs.Picking.{finds, cell-same, length-shown, shown-long, shows-add, shows-none}
 
 -- record i stands before record j
@@ -325,14 +326,7 @@ module _ {us vs qs : List ℕ} {q next : Taken} {ns ms : List ℕ} {k : ℕ} (t 
 
   -- a cell that still waits is another one
   still : (j : ℕ) → So (isWaiting (nth (cellsOf vs) j)) → nth (cellsOf vs) j ≡ nth (cellsOf us) j
-  still j w =
-      ⊎-elim
-      (λ x. let e : j ≡ k = eqb-true j k x in absurd (omega (arith, waiting→ _ w, ap (λ (i : ℕ). nth (cellsOf vs) i .place) e, ap (λ (c : Cell). c .place) here)))
-      (λ x. ap (λ (cs : List Cell). nth cs j) cells ∙ getD-set-other (cellsOf us) k j (placed 2 (nth (cellsOf us) k)) free (eqb-false j k x))
-      (passes (eqb j k))
-    where
-      here : nth (cellsOf vs) k ≡ placed 2 (nth (cellsOf us) k)
-      here = ap (λ (cs : List Cell). nth cs k) cells ∙ getD-set-same (cellsOf us) k (placed 2 (nth (cellsOf us) k)) free l
+  still j w = rw cells (placed-waits (cellsOf us) k l j (rw cells at (waiting→ _ w)))
 
   still-servable : (o : ℕ) → So (isServable (has (next .inputs)) o (cellsOf vs)) → So (isServable (has (q .inputs)) o (cellsOf us))
   unfolding isServable

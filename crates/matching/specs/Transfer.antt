@@ -1,8 +1,7 @@
 -- A whole phase: from what the rounds keep to the match words and the number of moves.
 -- Assumes nothing.
-use mathlib.Core.Path.{_≡_, refl, sym, ap, _∙_}
-use mathlib.Core.Logic.{⊎-elim}
-use mathlib.Core.Bool.{Bool, So, cond, _&&_, false≢true}
+use mathlib.Core.Path.{_≡_, sym, ap, _∙_}
+use mathlib.Core.Bool.{Bool, So, cond, _&&_}
 use mathlib.Core.List.{List}
 use Prim.Native.Nat.{ℕ, suc, _<_}
 use native.Mathlib.Omega.{arith}
@@ -11,7 +10,6 @@ use lib.ListN.{length, getD}
 use lib.Seq.{ext-getD}
 use borrow.Author.Tests.{eqb-true}
 use Rattle.laws.specs.Tests.{No, to-no, both, cond-true, cond-false}
-use Rattle.laws.specs.Walk.{over-ind}
 use Rattle.laws.specs.Count.{count, count-same, count-above, any→, →any}
 use Rattle.laws.specs.Least.{Least, lowest, lowest-is}
 use Rattle.laws.specs.Lists.{length-tabulate, getD-tabulate}
@@ -21,30 +19,14 @@ use Rattle.laws.specs.declared.Found.the-variants.{At, Nothing}
 use Rattle.ports.specs.Ports.{maskPorts, has}
 use Rattle.rules.specs.declared.Cell.{Cell}
 use Rattle.rules.specs.Cells.{mostPorts, nth, outputOf, cellsOf, sameOutput}
-use Rattle.rules.specs.Phases.{firstOpen, none, addFound, round, matchOf, isTakenOutput, moves, phase, servedWord, matchWords}
+use Rattle.rules.specs.Phases.{matchOf, isTakenOutput, moves, phase, servedWord, matchWords}
 use Rattle.words.specs.Words.{length-cellsOf, withRecords, length-with}
-use Rattle.ideal.specs.Cells.{waiting→}
-use Rattle.ideal.specs.Match.{in-add, open→, taken→}
+use Rattle.ideal.specs.Match.{taken→, match-waits}
 use Rattle.ideal.specs.Phases.{length-moved}
 use Rattle.queues.specs.Queues.{All, Queues}
 use Rattle.matching.specs.declared.Taken.{Taken}
 use Rattle.matching.specs.Ready.{Orderly}
-use Rattle.matching.specs.Picking.{Shows, open-found}
-
--- What is picked ------------------------------------------------------------------------------------
-
--- a picked record is a waiting one of the table
-pub match-waits : (n : ℕ) (r : List ℕ) (cs : List Cell) (k : ℕ) → So (matchOf n r cs k) → (k < length cs) × (nth cs k .place ≡ 1)
-unfolding matchOf none round
-match-waits n r cs = over-ind (λ i p. round r cs p) none (λ i p. Waits p) (λ k x. absurd (false≢true x)) n (λ i l p h. go p h (firstOpen r cs p) refl)
-  where
-    Waits : (ℕ → Bool) → Type 0
-    Waits p = (k : ℕ) → So (p k) → (k < length cs) × (nth cs k .place ≡ 1)
-
-    go : (p : ℕ → Bool) → Waits p → (f : Found) → firstOpen r cs p ≡ f → Waits (addFound p f)
-    go p h Nothing e k x = h k x
-    go p h (At j) e k x =
-        ⊎-elim (λ y. h k y) (λ (q : k ≡ j). let o = open-found r cs p j e in rw q (o .0, waiting→ _ (open→ cs p j (o .1) .0))) (in-add p j k x)
+use Rattle.matching.specs.Picking.{Shows}
 
 -- The match words ------------------------------------------------------------------------------------
 

@@ -19,13 +19,13 @@ use Rattle.rules.specs.declared.Cell.{Cell}
 use Rattle.rules.specs.Cells.{free, nth, outputOf, sameOutput, records, cellsOf}
 use Rattle.rules.specs.Phases.{matchOf, moves, moved, phase, phases, matchWords, servedWord, isTakenOutput}
 use Rattle.rules.specs.Phases.{matches as matchesOf}
-use Rattle.ideal.specs.Match.{→taken}
+use Rattle.ideal.specs.Match.{→taken, match-waits}
 use Rattle.words.specs.Words.{length-cellsOf, same-records, withRecords, length-with, cellsOf-with, with-again, with-own}
 use Rattle.ideal.specs.InPorts.{InPorts, in-ports-phases}
 use Rattle.ideal.specs.Phases.{length-moved, moved-no, phases-zero, length-phases}
 use Rattle.queues.specs.Queues.{All, Queues}
 use Rattle.matching.specs.Ready.{Orderly, Ready}
-use Rattle.matching.specs.Transfer.{match-waits, Transferred}
+use Rattle.matching.specs.Transfer.{Transferred}
 
 -- the match words of phase j
 unfoldable pub rowOf : ℕ → List ℕ → List Cell → ℕ → List ℕ

@@ -21,6 +21,7 @@ use Rattle.rules.specs.declared.Output.{Output}
 use Rattle.rules.specs.declared.Cell.{Cell}
 use Rattle.rules.specs.Cells.{mostPorts, mostRecords, free, nth, placed, isWaiting, cellsOf}
 use Rattle.ideal.specs.Cells.{waiting→, →waiting, Same, older-same}
+use Rattle.ideal.specs.Phases.{placed-waits, placed-cell}
 use Rattle.ideal.specs.InPorts.{in-ports-still}
 use Rattle.words.specs.Words.{length-cellsOf}
 use Rattle.queues.specs.Layout.{pairs, tops, links, senderSets, wantedSet, queueWords, pair, same-pair, headWord, topWord, nextWord, senders, wanted, nameOf, isFound}
@@ -183,21 +184,14 @@ module _ {cs : List Cell} {qs : List ℕ} (q : Queues All cs qs) (k : ℕ) (l : 
   unfolding next
   next-long = length-set cs k (placed 2 (nth cs k))
 
-  at-k : nth next k ≡ placed 2 (nth cs k)
-  unfolding next
-  at-k = getD-set-same cs k (placed 2 (nth cs k)) free l
-
   at-other : (j : ℕ) → (j ≡ k → ⊥) → nth next j ≡ nth cs j
   unfolding next
   at-other j n = getD-set-other cs k j (placed 2 (nth cs k)) free n
 
   -- a cell that still waits is another one
   still : (j : ℕ) → nth next j .place ≡ 1 → nth next j ≡ nth cs j
-  still j h =
-      ⊎-elim
-      (λ x. let e : j ≡ k = eqb-true j k x in absurd (omega (arith, h, ap (λ (i : ℕ). nth next i .place) e, ap (λ (c : Cell). c .place) at-k)))
-      (λ x. at-other j (eqb-false j k x))
-      (passes (eqb j k))
+  unfolding next
+  still j h = placed-waits cs k l j h
 
   alike : (i o j : ℕ) → But (nth cs k .input .0) (nth cs k .output .0) i o → waitsFor i o (nth next j) ≡ waitsFor i o (nth cs j)
   alike i o j ne =
@@ -214,11 +208,8 @@ module _ {cs : List Cell} {qs : List ℕ} (q : Queues All cs qs) (k : ℕ) (l : 
           omega (arith, w .1, w .2, ap (λ (c : ℕ). nth cs c .input .0) e, ap (λ (c : ℕ). nth cs c .output .0) e)
 
   same-cell : (j : ℕ) → Same (nth next j) (nth cs j)
-  same-cell j =
-      ⊎-elim
-      (λ x. let e : j ≡ k = eqb-true j k x in rw (e, at-k) (record { input = refl; output = refl; entered = refl; tag = refl }))
-      (λ x. rw (at-other j (eqb-false j k x)) (record { input = refl; output = refl; entered = refl; tag = refl }))
-      (passes (eqb j k))
+  unfolding next
+  same-cell j = placed-cell cs k l j
 
   head-stays : (i o : ℕ) → But (nth cs k .input .0) (nth cs k .output .0) i o → headOf next i o ≡ headOf cs i o
   unfolding headBelow
