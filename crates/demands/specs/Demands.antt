@@ -22,7 +22,7 @@ use Rattle.rules.specs.Demands.{brings, emissions, since, Ran, left}
 use Rattle.rules.specs.Examples.{zeros, arrivalsOf, bothSend, oneSends}
 use Rattle.ideal.specs.Fit.{→fit}
 use Rattle.ideal.specs.Cells.{live→}
-use Rattle.ideal.specs.Calls.{slot-meets, slot-told}
+use Rattle.ideal.specs.Calls.{slot-meets, slot-distinct}
 use Rattle.ideal.specs.Only.{slot-moves, slot-leaves}
 use Rattle.ideal.specs.Runs as Runs
 use Rattle.ideal.specs.Totals.{fresh-total}
@@ -61,7 +61,7 @@ module _ (x : State) (ls : Lists) (accepted : So (isAccepted x (slots ls))) wher
       → Slotted (x .numbers .speedup) (x .numbers .next) (arrived (x .numbers .ports) (x .numbers .next) (ls .arrivals)) y g (cellsOf (x .table)) other last
       → ((j : ℕ) → j < x .numbers .speedup → (c : Cell) → moving j c ≡ y j c) × ((c : Cell) → leaving c ≡ g c)
   unfolding inhaled
-  nothing-else y g other last h = (slot-moves published h, slot-leaves published h (slot-told (Runs.slot-accepts x ls accepted)))
+  nothing-else y g other last h = (slot-moves published h, slot-leaves published h (slot-distinct (Runs.slot-accepts x ls accepted)))
 
 -- Demand 3, for runs of speedup `least` or more. A cell c enters in slot s with k cells for its output before it, counted at the end of that
 -- slot's inhale, waiting and ready. Of the accepted slots from that one to the next accepted fresh start, the one with number s + k emits it,

@@ -11,7 +11,7 @@ use lib.Dec.{eqb}
 use borrow.Author.Tests.{eqb-true, eq-eqb}
 use Rattle.laws.specs.Tests.{No, both, join, passes, refuted, denied, deny}
 use Rattle.laws.specs.Count.{count, count-either, count-none, count-mono}
-use Rattle.laws.specs.Least.{largest}
+use Rattle.laws.specs.Least.{largest-key}
 use Rattle.rules.specs.declared.Cell.{Cell}
 use Rattle.demands.specs.Ages.{age, reach, rank}
 use Rattle.demands.specs.Ahead.{readyIn, isAhead, ahead→, →ahead, isYounger, younger→, Slack}
@@ -118,7 +118,7 @@ module _ {n : ℕ} {key : Cell → ℕ} {v : ℕ} {r : ℕ → ℕ} {t u : ℕ �
       some-old = let w = was d hd od in omega (arith, lead .3, lower, mul-le-mul-left v many, inv .slack (lead .0) d (lead .1) hd (w .1) (lead .2))
 
     each : Goal
-    each = ⊎-elim (λ x. some-old (x .0) (x .1) (x .2) (x .3)) all-come (largest old (λ k. rank r (t k)) n)
+    each = ⊎-elim (λ x. some-old (x .0) (x .1) (x .2) (x .3)) all-come (largest-key old (λ k. rank r (t k)) n)
 
   pub exchange-keeps : Slack n key v (readyIn n u) u 0 c
   exchange-keeps = record { slack = each }

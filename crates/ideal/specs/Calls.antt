@@ -31,7 +31,7 @@ use Rattle.ideal.specs.Phases.{phases-suc, phases-fit}
 use Rattle.ideal.specs.Inhale.{inhale-is, inhale-fit}
 use Rattle.ideal.specs.Exhale.{exhale-fit}
 use Rattle.ideal.specs.Meets.{fit-single, fresh-meets, inhale-meets, transfer-meets, exhale-meets}
-use Rattle.ideal.specs.Only.{Told, fit-told}
+use Rattle.ideal.specs.Only.{Distinct, fit-distinct}
 use Rattle.ideal.specs.Refusals.{refuses, sameAnswer, holdsFor, passed, is-done, done-both}
 
 -- What is accepted -------------------------------------------------------------------------------
@@ -209,5 +209,5 @@ module _ {w : Switch} {table : List ℕ} {l : Lists} (a : Accepted w table l) wh
       }
 
   -- nothing in it is told apart by less than slot and input, so that the model's slot is this one only (Only.antt)
-  pub slot-told : Told (after (w .speedup))
-  slot-told = fit-told (after-fit (w .speedup))
+  pub slot-distinct : Distinct (after (w .speedup))
+  slot-distinct = fit-distinct (after-fit (w .speedup))

@@ -72,11 +72,11 @@ module _ {r : List ℕ} {x y : Cell → Bool} {t t′ u v : List Cell} (a : Tran
 -- Leave ------------------------------------------------------------------------------------------
 
 -- of the cells in an output buffer no two have the same slot and the same input
-pub record Told (t : List Cell) : Type 0 where
+pub record Distinct (t : List Cell) : Type 0 where
   pub told : (c d : Cell) → So (outputBuffer t c) → So (outputBuffer t d) → c .entered .0 ≡ d .entered .0 → c .input .0 ≡ d .input .0 → So (same c d)
 
-pub fit-told : {n : ℕ} {b : Slot} {t : List Cell} → Fit n b t → Told t
-fit-told {t = t} f =
+pub fit-distinct : {n : ℕ} {b : Slot} {t : List Cell} → Fit n b t → Distinct t
+fit-distinct {t = t} f =
     record {
       told = λ c d x y s i.
           let j = output→ t c x in
@@ -98,7 +98,7 @@ exhaled-same {e} {t} {u} a c d s i h =
     absurd (refuted h (denied _ (both (outputBuffer t c) _ still .1))))
     (passes (e d))
 
-leaves-too : {e g : Cell → Bool} {t t′ u v : List Cell} → Exhale e t u → Exhale g t′ v → Alike t t′ → Told t → (c : Cell) → So (e c) → So (g c)
+leaves-too : {e g : Cell → Bool} {t t′ u v : List Cell} → Exhale e t u → Exhale g t′ v → Alike t t′ → Distinct t → (c : Cell) → So (e c) → So (g c)
 leaves-too {e} {g} {t} {t′} a b s f c h = go (b .work c (sym (s .outputs c) ∙ a .subset c h))
   where
     go : (d : Cell) × So (g d) × So (sameOutput (d .output) (c .output)) → So (g c)
@@ -109,12 +109,12 @@ leaves-too {e} {g} {t} {t′} a b s f c h = go (b .work c (sym (s .outputs c) �
         let tie = older-tie c (d .0) (b .order (d .0) c (d .1) there (d .2)) (a .order c (d .0) h inside (eq-output c (d .0) (sym o))) in
         exhaled-same b (d .0) c (same-sym c (d .0) (f .told c (d .0) (a .subset c h) inside (tie .0) (tie .1))) there (d .1)
 
-told-alike : {t t′ : List Cell} → Alike t t′ → Told t → Told t′
-told-alike s f = record { told = λ c d x y e i. f .told c d (s .outputs c ∙ x) (s .outputs d ∙ y) e i }
+distinct-alike : {t t′ : List Cell} → Alike t t′ → Distinct t → Distinct t′
+distinct-alike s f = record { told = λ c d x y e i. f .told c d (s .outputs c ∙ x) (s .outputs d ∙ y) e i }
 
-module _ {e g : Cell → Bool} {t t′ u v : List Cell} (a : Exhale e t u) (b : Exhale g t′ v) (s : Alike t t′) (f : Told t) where
+module _ {e g : Cell → Bool} {t t′ u v : List Cell} (a : Exhale e t u) (b : Exhale g t′ v) (s : Alike t t′) (f : Distinct t) where
   pub exhale-only : (c : Cell) → e c ≡ g c
-  exhale-only c = same-test (e c) (g c) (leaves-too a b s f c) (leaves-too b a (alike-sym s) (told-alike s f) c)
+  exhale-only c = same-test (e c) (g c) (leaves-too a b s f c) (leaves-too b a (alike-sym s) (distinct-alike s f) c)
 
   pub exhale-alike : Alike u v
   exhale-alike =
@@ -188,8 +188,8 @@ module _ {s : ℕ} {b : Slot} {h : Cell → Bool} {x y : ℕ → Cell → Bool} 
   pub slot-moves : (j : ℕ) → j < s → (d : Cell) → x j d ≡ y j d
   slot-moves j l d = transfer-only (a .transfers j l) (other j l) (slot-alike j (omega arith)) d
 
-  pub slot-leaves : Told (step s) → (d : Cell) → e d ≡ g d
+  pub slot-leaves : Distinct (step s) → (d : Cell) → e d ≡ g d
   slot-leaves f d = exhale-only (a .exhales) (c .exhales) (slot-alike s (omega arith)) f d
 
-  pub slot-leaves-alike : Told (step s) → Alike u v
+  pub slot-leaves-alike : Distinct (step s) → Alike u v
   slot-leaves-alike f = exhale-alike (a .exhales) (c .exhales) (slot-alike s (omega arith)) f

@@ -188,9 +188,9 @@ module _ (p : ℕ → Bool) where
       rw s at (kept (i + 1) (n - (i + 1)) i (omega arith) q)
 
 -- one that passes with the largest key of those that do, or none passes
-pub largest : (p : ℕ → Bool) (key : ℕ → ℕ) (n : ℕ)
+pub largest-key : (p : ℕ → Bool) (key : ℕ → ℕ) (n : ℕ)
     → ((k : ℕ) × (k < n) × So (p k) × ((j : ℕ) → j < n → So (p j) → key j ≤ key k)) ⊎ ((k : ℕ) → k < n → So (p k) → ⊥)
-largest p key n = go (least p higher n) (least-is p higher (strict-on (λ i j. ltb j i) (strict-back ltb ltb-strict) key) n)
+largest-key p key n = go (least p higher n) (least-is p higher (strict-on (λ i j. ltb j i) (strict-back ltb ltb-strict) key) n)
   where
     higher : ℕ → ℕ → Bool
     higher i j = ltb (key j) (key i)
