@@ -99,13 +99,13 @@ module _ (sound : Cell → Bool) (of-free : (c : Cell) → So (isFree c) → sou
         let q : nth (cellsOf ws) x .place ≡ getD ws (x * width) 0 = ap (λ (c : Cell). c .place) (nth-cellsOf ws x l) in
         omega (arith, q, small (x * width), sym (and-mask (nth (cellsOf ws) x .place) 32) ∙ e)
 
-    free-sound : So (sound free)
+    free-meets : So (sound free)
     unfolding isFree
-    free-sound = of-free free (eq-eqb 0 0 refl) ∙ free-blank
+    free-meets = of-free free (eq-eqb 0 0 refl) ∙ free-blank
 
     free-more : (x : ℕ) → nth (cellsOf ws) x ≡ free → FitSoFar sound (cellsOf ws) ms x → FitSoFar sound (cellsOf ws) ms (x + 1)
     free-more x q p = record {
-      good = every-more _ x (p .good) (join _ _ (ap sound q ∙ free-sound) (free-alone (cellsOf ws) x q));
+      good = every-more _ x (p .good) (join _ _ (ap sound q ∙ free-meets) (free-alone (cellsOf ws) x q));
       seen = seen-free (cellsOf ws) x q (p .seen);
     }
 
