@@ -48,12 +48,12 @@ module _ (sound : Cell → Bool) (cs : List Cell) (ms : List ℕ) where
   pub fit-fails : {vs : List ℕ} {j k : ℕ} {r : Bool} → FitTo sound cs vs j r → No r → FitTo sound cs ms k false
   fit-fails t h = record { fits = λ q. absurd (false≢true q); fails = λ q. t .fails h }
 
-  -- one record that is not sound or not alone, and the table is not fit
-  broken : (k x : ℕ) → x < length cs → No (passing sound cs x) → FitTo sound cs ms k false
-  broken k x l q = record { fits = λ h. absurd (false≢true h); fails = λ h. every-broken (passing sound cs) x (length cs) l q }
-
+  -- one record that is not sound, and the table is not fit
   pub unsound : (k x : ℕ) → x < length cs → No (sound (nth cs x)) → FitTo sound cs ms k false
-  unsound k x l q = broken k x l (fails-left (sound (nth cs x)) (isAlone cs x) q)
+  unsound k x l q = record {
+    fits = λ h. absurd (false≢true h);
+    fails = λ h. every-broken (passing sound cs) x (length cs) l (fails-left (sound (nth cs x)) (isAlone cs x) q);
+  }
 
   -- record k is sound, and whether it is alone is told
   pub fit-more : {vs : List ℕ} {k : ℕ} {r : Bool} → FitSoFar sound cs vs k → k < length cs → So (sound (nth cs k)) → Told cs k r ms

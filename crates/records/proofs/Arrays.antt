@@ -33,16 +33,20 @@ use borrow.Table.OneValue.{part-out, part-in}
 use Rattle.records.specs.Records.{tableWords}
 
 module _ {M : Type 1} (𝓤 : URA M) (H : Heap 𝓤) (A : Atoms 𝓤) (W : Given 𝓤 H A) (R : RattleType) (one : Single (R .mir)) (n : ℕ) (xs : List (R .Denot)) where
-  pub opens-array : (v : Val) (l : ℕ) → ent 𝓤 (sep 𝓤 (H .at fullShare (tyArray (lone (R .mir)) n) l 0 v) (sem 𝓤 H A (Array R n .own xs (v ∷ [])))) (mean 𝓤 H A (given (length xs ≡ n) (‵ (row R fullShare xs l 0))))
+  pub opens-array : (v : Val) (l : ℕ) → ent 𝓤 (sep 𝓤 (H .at fullShare (tyArray (lone (R .mir)) n) l 0 v) (sem 𝓤 H A (Array R n .own xs (v ∷ []))))
+      (mean 𝓤 H A (given (length xs ≡ n) (‵ (row R fullShare xs l 0))))
   opens-array v l =
       qed W (‵ (fat fullShare (tyArray (lone (R .mir)) n) l 0 v) ∷ ‵ (Array R n .own xs (v ∷ [])) ∷ []) ∵
       use2 W (‵ (partAt (Array R n) fullShare xs l 0)) (part-in 𝓤 H A W (Array R n) refl fullShare xs l 0 v) $
       use1 W (‵ (arr-parts (shares R) n .part fullShare xs l 0)) (array-apart 𝓤 H A W R fullShare one n xs l 0) $ fsplit ! $ feqL ! (λ e. check ! e $ done !)
 
-  pub closes-array : length xs ≡ n → (l : ℕ) → ent 𝓤 (sem 𝓤 H A (row R fullShare xs l 0)) (mean 𝓤 H A (some (λ (v : Val). given (Is (Array R n) xs (v ∷ [])) (‵ (fat fullShare (tyArray (lone (R .mir)) n) l 0 v)))))
+  pub closes-array : length xs ≡ n → (l : ℕ) → ent 𝓤 (sem 𝓤 H A (row R fullShare xs l 0))
+      (mean 𝓤 H A (some (λ (v : Val). given (Is (Array R n) xs (v ∷ [])) (‵ (fat fullShare (tyArray (lone (R .mir)) n) l 0 v)))))
   closes-array e l =
-      qed W (‵ (row R fullShare xs l 0) ∷ []) ∵ feqI ! ℕ (length xs) n e $ fjoin ! $ use1 W (‵ (partAt (Array R n) fullShare xs l 0)) (array-whole 𝓤 H A W R fullShare n xs l 0) $
-      use1 W (some (λ (v : Val). ‵ (fat fullShare (tyArray (lone (R .mir)) n) l 0 v) ⊛ ‵ (Array R n .own xs (v ∷ [])))) (part-out 𝓤 H A W (Array R n) refl fullShare xs l 0) $ pick ! (λ v. split ! $ move ! (1 ∷ []) $
+      qed W (‵ (row R fullShare xs l 0) ∷ []) ∵ feqI ! ℕ (length xs) n e $ fjoin ! $
+      use1 W (‵ (partAt (Array R n) fullShare xs l 0)) (array-whole 𝓤 H A W R fullShare n xs l 0) $
+      use1 W (some (λ (v : Val). ‵ (fat fullShare (tyArray (lone (R .mir)) n) l 0 v) ⊛ ‵ (Array R n .own xs (v ∷ []))))
+      (part-out 𝓤 H A W (Array R n) refl fullShare xs l 0) $ pick ! (λ v. split ! $ move ! (1 ∷ []) $
       peeks ! (Array R n) (Is (Array R n)) (shows 𝓤 H A (Array R n)) xs (v ∷ []) (λ is. drop ! $
       show ! (λ (u : Val). mean 𝓤 H A (given (Is (Array R n) xs (u ∷ [])) (‵ (fat fullShare (tyArray (lone (R .mir)) n) l 0 u)))) v $ check ! is $ done !))
 
@@ -53,15 +57,18 @@ module _ (R : RattleType) (b : ℕ) where
   after (x ∷ xs) (suc k) o = after xs k (o + mem R .size)
 
   module _ {M : Type 1} (𝓤 : URA M) (H : Heap 𝓤) (A : Atoms 𝓤) (W : Given 𝓤 H A) where
-    pub cut-front : (xs : List (R .Denot)) (k o : ℕ) → ent 𝓤 (sem 𝓤 H A (row R fullShare xs b o)) (sep 𝓤 (sem 𝓤 H A (row R fullShare (take k xs) b o)) (sem 𝓤 H A (after xs k o)))
+    pub cut-front : (xs : List (R .Denot)) (k o : ℕ) → ent 𝓤 (sem 𝓤 H A (row R fullShare xs b o))
+        (sep 𝓤 (sem 𝓤 H A (row R fullShare (take k xs) b o)) (sem 𝓤 H A (after xs k o)))
     cut-front [] zero o = qed W (‵ (row R fullShare [] b o) ∷ []) ∵ nothing ! $ frame ! $ done !
     cut-front [] (suc k) o = qed W (‵ (row R fullShare [] b o) ∷ []) ∵ nothing ! $ frame ! $ done !
     cut-front (x ∷ xs) zero o = qed W (‵ (row R fullShare (x ∷ xs) b o) ∷ []) ∵ nothing ! $ frame ! $ done !
     cut-front (x ∷ xs) (suc k) o =
-        qed W (‵ (row R fullShare (x ∷ xs) b o) ∷ []) ∵ fsplit ! $ move ! (1 ∷ []) $ use1 W (‵ (row R fullShare (take k xs) b (o + mem R .size)) ⊛ ‵ (after xs k (o + mem R .size))) (cut-front xs k (o + mem R .size)) $ split ! $
+        qed W (‵ (row R fullShare (x ∷ xs) b o) ∷ []) ∵ fsplit ! $ move ! (1 ∷ []) $
+        use1 W (‵ (row R fullShare (take k xs) b (o + mem R .size)) ⊛ ‵ (after xs k (o + mem R .size))) (cut-front xs k (o + mem R .size)) $ split ! $
         move ! (2 ∷ 0 ∷ []) $ fjoin ! $ frame ! $ done !
 
-    pub join-front : (xs : List (R .Denot)) (k o : ℕ) → ent 𝓤 (sep 𝓤 (sem 𝓤 H A (row R fullShare (take k xs) b o)) (sem 𝓤 H A (after xs k o))) (sem 𝓤 H A (row R fullShare xs b o))
+    pub join-front : (xs : List (R .Denot)) (k o : ℕ) → ent 𝓤 (sep 𝓤 (sem 𝓤 H A (row R fullShare (take k xs) b o)) (sem 𝓤 H A (after xs k o)))
+        (sem 𝓤 H A (row R fullShare xs b o))
     join-front [] zero o = qed W (‵ (row R fullShare [] b o) ∷ ‵ ftrue ∷ []) ∵ drop ! $ done !
     join-front [] (suc k) o = qed W (‵ (row R fullShare [] b o) ∷ ‵ ftrue ∷ []) ∵ drop ! $ done !
     join-front (x ∷ xs) zero o = qed W (‵ ftrue ∷ ‵ (row R fullShare (x ∷ xs) b o) ∷ []) ∵ drop ! $ done !

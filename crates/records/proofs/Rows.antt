@@ -43,7 +43,8 @@ fits {n} {k} g l = omega (arith, g .1, l)
 abbrev pub val : Cell → Val
 val c = LL.val T.the-type T′.the-laws c
 
-pub typed : {M : Type 1} (𝓤 : URA M) (H : Heap 𝓤) (A : Atoms 𝓤) (W : Given 𝓤 H A) (c : Cell) → Is T.the-row c (val c ∷ []) → Holds (hasTy T′.mir (val c)) × WT (val c)
+pub typed : {M : Type 1} (𝓤 : URA M) (H : Heap 𝓤) (A : Atoms 𝓤) (W : Given 𝓤 H A) (c : Cell) → Is T.the-row c (val c ∷ [])
+    → Holds (hasTy T′.mir (val c)) × WT (val c)
 typed 𝓤 H A W c g = LL.lawful T.the-type T′.the-laws 𝓤 H A W .typed c (val c ∷ []) g .0
 
 abbrev pub lent : ℕ → ℕ → GName → List Cell → RefT (List Cell)
@@ -54,7 +55,8 @@ Lent κ b o γ ys = ShrSlice (named 0) κ T.the-row .own (lent b o γ ys) (slice
 
 -- what stands in the place of those two while record k is seen
 abbrev pub Seen : {M : Type 1} (𝓤 : URA M) → Lft → Share → Share → ℕ → ℕ → GName → List Cell → ℕ → List (Item 𝓤) → List (Item 𝓤)
-Seen 𝓤 κ q q′ b o γ ys k Γ = ‵ (cellAt q′ (T.the-row .mir) (val (nth ys k) ∷ []) b (place bytes o k)) ∷ ‵ (T.the-row .own (nth ys k) (val (nth ys k) ∷ [])) ∷ ‵ (others (shares T.the-row) q′ ys k b o)
+Seen 𝓤 κ q q′ b o γ ys k Γ = ‵ (cellAt q′ (T.the-row .mir) (val (nth ys k) ∷ []) b (place bytes o k)) ∷ ‵ (T.the-row .own (nth ys k) (val (nth ys k) ∷ []))
+    ∷ ‵ (others (shares T.the-row) q′ ys k b o)
     ∷ ‵ (fobor κ q (arr-parts (shares T.the-row) (length ys) .part q′ ys b o)) ∷ ‵ (fshr-bor κ (λ s. arr-parts (shares T.the-row) (length ys) .part s ys b o))
     ∷ ‵ (fres γ (codedHoleys T.the-row .code (heres T.the-row ys))) ∷ ‵ (at-slice T.the-row (lent b o γ ys) (sliceVal (b, o) (length ys) ∷ [])) ∷ Γ
 
@@ -65,8 +67,10 @@ module _ {M : Type 1} {𝓤 : URA M} {H : Heap 𝓤} {A : Atoms 𝓤} {K : Type 
         → Seq K W (‵ (flft κ q) ∷ ‵ (Lent κ b o γ ys) ∷ Γ) G
     looks-at t z b o γ ys k l then =
         move t (1 ∷ []) $ fsplit t $ move t (1 ∷ []) $ fsplit t $ move t (1 ∷ 3 ∷ []) $
-        looks-slice t z T.the-row (Is T.the-row) (shows 𝓤 H A T.the-row) (LL.vals T.the-type T′.the-laws) (LL.tells T.the-type T′.the-laws) (LL.copy T.the-type T′.the-copy 𝓤 H A W) ys b o (λ q′.
-        elem-out t T.the-row (Is T.the-row) (shows 𝓤 H A T.the-row) (LL.vals T.the-type T′.the-laws) (LL.tells T.the-type T′.the-laws) q′ ys k free b o l (λ g. then q′ g))
+        looks-slice t z T.the-row (Is T.the-row) (shows 𝓤 H A T.the-row) (LL.vals T.the-type T′.the-laws) (LL.tells T.the-type T′.the-laws)
+        (LL.copy T.the-type T′.the-copy 𝓤 H A W) ys b o (λ q′.
+        elem-out t T.the-row (Is T.the-row) (shows 𝓤 H A T.the-row) (LL.vals T.the-type T′.the-laws) (LL.tells T.the-type T′.the-laws) q′ ys k free b o l
+        (λ g. then q′ g))
 
     pub shuts-at : K → Soaks G → {κ : Lft} {q q′ : Share} (b o : ℕ) (γ : GName) (ys : List Cell) (k : ℕ) → k < length ys
         → Step K W (‵ (flft κ q) ∷ ‵ (Lent κ b o γ ys) ∷ Γ) G (Seen 𝓤 κ q q′ b o γ ys k Γ) G
@@ -76,5 +80,6 @@ module _ {M : Type 1} {𝓤 : URA M} {H : Heap 𝓤} {A : Atoms 𝓤} {K : Type 
 
   module _ {C : Calls 𝓤 H} {Λ : Loops 𝓤 H} {E : Env 𝓤 H} {q : Post 𝓤 H} where
     pub tests-while : K → {c : Operand} {n : ℕ} {b : Body} {y : Bool} → Opd K W Γ E c (vbool y)
-        → (Holds y → Seq K W Γ (runs C Λ E b q)) → (Holds (not y) → Seq K W Γ (prop (post 𝓤 H q (exits n)))) → Seq K W Γ (runs C Λ E (seq (cond c skip (exit n)) b) q)
+        → (Holds y → Seq K W Γ (runs C Λ E b q)) → (Holds (not y) → Seq K W Γ (prop (post 𝓤 H q (exits n))))
+        → Seq K W Γ (runs C Λ E (seq (cond c skip (exit n)) b) q)
     tests-while t o held failed = first t $ branches t o (λ h. skips t $ record { prf = held h .prf }) (λ h. jumps t $ record { prf = failed h .prf })

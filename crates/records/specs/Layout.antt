@@ -27,7 +27,8 @@ within-records n = ⊎-elim (λ few. rw few (omega arith)) (λ many. rw many (om
 
 pub within-room : (n : ℕ) → wordsToLay n ≤ tableWords
 unfolding wordsToLay
-within-room n = ⊎-elim (λ few. let l : n ≤ mostRecords = leb-true n mostRecords few in rw few (omega arith)) (λ many. rw many (omega arith)) (passes (leb n mostRecords))
+within-room n = ⊎-elim (λ few. let l : n ≤ mostRecords = leb-true n mostRecords few in rw few (omega arith)) (λ many. rw many (omega arith))
+    (passes (leb n mostRecords))
 
 -- of a table of one record the words are its fields
 pub alone : (ws : List ℕ) (c : Cell) (r : ℕ) → length ws ≡ width → r < width → getD (stored ws 0 c) r 0 ≡ getD (fields c) r 0
@@ -50,10 +51,15 @@ word-at cs j l = let q : j / width * width + j % width ≡ j = omega arith in rw
 
 pub one-more : (cs : List Cell) (j : ℕ) (ws : List ℕ) (w : ℕ) → j < wordsToLay (length cs) → w ≡ getD (fields (nth cs (j / width))) (j % width) 0
     → LaidTo cs j ws → LaidTo cs (j + 1) (set ws j w)
-one-more cs j ws w l e laid = record { long = length-set ws j w ∙ laid .long; same = λ i m. ⊎-elim (λ h. here i (eqb-true i j h)) (λ h. there i m (eqb-false i j h)) (passes (eqb i j)) }
+one-more cs j ws w l e laid = record {
+  long = length-set ws j w ∙ laid .long;
+  same = λ i m. ⊎-elim (λ h. here i (eqb-true i j h))
+      (λ h. there i m (eqb-false i j h)) (passes (eqb i j));
+}
   where
     here : (i : ℕ) → i ≡ j → getD (set ws j w) i 0 ≡ getD (wordsOf cs) i 0
-    here i q = rw q (getD-set-same ws j w 0 (omega (arith, within-room (length cs), laid .long)) ∙ e ∙ sym (word-at cs j (omega (arith, within-records (length cs)))))
+    here i q = rw q (getD-set-same ws j w 0 (omega (arith, within-room (length cs), laid .long)) ∙ e ∙ sym
+        (word-at cs j (omega (arith, within-records (length cs)))))
 
     there : (i : ℕ) → i < j + 1 → (i ≡ j → ⊥) → getD (set ws j w) i 0 ≡ getD (wordsOf cs) i 0
     there i m ne = getD-set-other ws j i w 0 ne ∙ laid .same i (omega arith)
@@ -65,7 +71,8 @@ all-laid cs j ws l laid = record { long = laid .long; words = λ few. known few 
     known : length cs ≤ mostRecords → length cs * width ≤ j → take (length cs * width) ws ≡ wordsOf cs
     known few l =
         let e : length (take (length cs * width) ws) ≡ length cs * width = length-take-le (length cs * width) ws (omega (arith, laid .long)) in
-        ext-getD 0 (take (length cs * width) ws) (wordsOf cs) (e ∙ sym (length-wordsOf cs)) (λ i h. getD-take (length cs * width) ws i 0 (omega arith) ∙ laid .same i (omega arith))
+        ext-getD 0 (take (length cs * width) ws) (wordsOf cs) (e ∙ sym (length-wordsOf cs))
+        (λ i h. getD-take (length cs * width) ws i 0 (omega arith) ∙ laid .same i (omega arith))
 
 -- ---- what a scan answers
 pub too-many : (n : ℕ) (f : Found) → mostRecords < n → TooMany ≡ answered n f

@@ -7,7 +7,8 @@ use Rattle.examples.proofs.repeat.Statement.{statement}
 use Rattle.examples.proofs.repeat.Tie as tie
 
 abbrev Inv-loop : tie.InvT-loop
-Inv-loop turns table₀ arrivals matches₀ exhaled₀ given₀ turn₀ table matches exhaled given turn = (turn ≤ turns) × (length table ≡ length table₀) × (length matches ≡ length matches₀) × (length exhaled ≡ length exhaled₀)
+Inv-loop turns table₀ arrivals matches₀ exhaled₀ given₀ turn₀ table matches exhaled given turn =
+    (turn ≤ turns) × (length table ≡ length table₀) × (length matches ≡ length matches₀) × (length exhaled ≡ length exhaled₀)
 
 abbrev μ-loop : tie.MeasureT-loop
 μ-loop turns table₀ arrivals matches₀ exhaled₀ given₀ turn₀ table matches exhaled given turn = turns - turn

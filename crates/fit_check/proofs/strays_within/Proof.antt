@@ -71,8 +71,7 @@ loop-again c =
     let bs = now (a .blocks) in
     let e : a .k + past bs (i .j + 1) * block ≡ a .k + getD bs (i .j) 0 * block + block = rw (add-one (i .j)) (omega arith) in (
       omega (arith, t .loop-test .taken),
-      rw e
-          (strays-join (omega arith) (strays-skip _ (omega (arith, r .0)) (i .inv .1) (free-between _ _ d (i .j) (t .loop-test .taken))) (c .strays-among .ensures)),
+      rw e (strays-join (omega arith) skipped (c .strays-among .ensures)),
     )
 
 mul-rest : tie.Need-mul-rest Inv-loop μ-loop

@@ -32,4 +32,5 @@ returns-2 : tie.Need-returns-2
 returns-2 c = c .told .ensures ∙ ap findingOf (c .before .oldest-ready .ensures) ∙ not-too-many _ _ (c .before .before .before .if1 .left)
 
 pub oldest-ready-in-spec : {M : Type 1} → statement M
-oldest-ready-in-spec = tie.close (tie.spec returns mul-words array-share-prefix-words slice-aggregate-oldest-ready oldest-ready-requires told-requires returns-2)
+oldest-ready-in-spec = tie.close (tie.spec returns mul-words array-share-prefix-words slice-aggregate-oldest-ready oldest-ready-requires told-requires
+    returns-2)

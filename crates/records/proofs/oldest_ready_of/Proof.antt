@@ -18,7 +18,8 @@ oldest-ready-in-requires : tie.Need-oldest-ready-in-requires
 oldest-ready-in-requires c κs = search needs
 
 returns-2 : tie.Need-returns-2
-returns-2 c = c .oldest-ready-in .ensures ∙ scanned (λ cs. oldestReady cs (c .before .before .before .args .o)) _ _ _ (length-take-le _ _ (omega arith)) (c .before .lay-out-first .ensures)
+returns-2 c = c .oldest-ready-in .ensures ∙ scanned (λ cs. oldestReady cs (c .before .before .before .args .o)) _ _ _ (length-take-le _ _ (omega arith))
+    (c .before .lay-out-first .ensures)
 
 pub oldest-ready-of-spec : {M : Type 1} → statement M
 oldest-ready-of-spec = tie.close (tie.spec returns lay-out-first-requires oldest-ready-in-requires returns-2)
