@@ -9,14 +9,15 @@ use native.Mathlib.Omega.{arith}
 use native.Mathlib.Nat.{eq-zero-or-pos}
 use lib.Dec.{ltb, leb}
 use lib.ListN.{length}
-use borrow.Author.Tests.{eqb-true, ltb-true, lt-ltb, leb-true, le-leb}
+use borrow.Author.Tests.{ltb-true, lt-ltb, leb-true, le-leb}
 use Rattle.laws.specs.Tests.{No, passes, refuted, to-no, both, join, denied, deny, cond-true, cond-false}
 use Rattle.laws.specs.Count.{every→, →every}
 use Rattle.laws.specs.Order.{neither-lower}
 use Rattle.rules.specs.declared.Slot.{Slot}
 use Rattle.rules.specs.declared.Cell.{Cell}
 use Rattle.rules.specs.Cells.{free, nth, isFree, isBlank, isSound, isAlone, sameEntry, fit, before}
-use Rattle.ideal.specs.Cells.{place≡, Same, same-cell, same-self, same-on, free→, →free, live→, →live, sameEntry→, →sameEntry, before-tie}
+use Rattle.words.specs.Behind.{blank-free}
+use Rattle.ideal.specs.Cells.{place≡, Same, same-self, same-on, free→, →free, live→, →live, sameEntry→, →sameEntry, before-tie}
 
 -- a record by itself
 pub record Sound (n : ℕ) (t : Slot) (c : Cell) : Type 0 where
@@ -45,20 +46,12 @@ pub free-sound : (n : ℕ) (t : Slot) → Sound n t free
 free-sound n t = sound-blank n t free refl refl
 
 module _ (n : ℕ) (t : Slot) (c : Cell) where
-  blank→ : c .place ≡ 0 → So (isBlank c) → c ≡ free
-  unfolding isBlank
-  blank→ e h =
-      let x = both _ _ h in
-      let y = both _ _ (x .0) in
-      let z = both _ _ (y .0) in
-      same-cell c free e (record { input = eqb-true _ 0 (z .0); output = eqb-true _ 0 (z .1); entered = eqb-true _ 0 (y .1); tag = eqb-true _ 0 (x .1) })
-
   pub sound→ : So (isSound n t c) → Sound n t c
   unfolding isSound
   sound→ h = ⊎-elim (λ x. is-free x (cond-true (isFree c) _ _ x)) (λ x. is-live x (cond-false (isFree c) _ _ x)) (passes (isFree c))
     where
       is-free : So (isFree c) → isSound n t c ≡ isBlank c → Sound n t c
-      is-free x e = sound-blank n t c (free→ c x) (blank→ (free→ c x) (sym e ∙ h))
+      is-free x e = sound-blank n t c (free→ c x) (blank-free c (free→ c x) (sym e ∙ h))
 
       is-live : No (isFree c) → isSound n t c ≡ (leb (c .place) 2 && ltb (c .input .0) n && ltb (c .output .0) n && ltb (c .entered .0) (t .0)) → Sound n t c
       is-live x e =
