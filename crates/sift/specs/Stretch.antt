@@ -11,17 +11,17 @@ use native.Mathlib.Numerals.{add-one}
 use native.Mathlib.Nat.{add-zero}
 use lib.Bits.{bitAnd}
 use lib.Dec.{eqb}
-use lib.ListN.{length, getD, set, length-set}
+use lib.ListN.{length, getD, set, take, length-set}
 use Rattle.laws.specs.Tests.{No, to-so}
 use Rattle.laws.specs.Count.{bit}
-use Rattle.laws.specs.Sifted.{Sifted, Block, Chosen, past, chosen-none, chosen-more, chosen-skip, chosen-sifted, sifted-as, to-sifted, to-end}
+use Rattle.laws.specs.Sifted.{Sifted, Block, Chosen, past, chosen-settled, chosen-none, chosen-more, chosen-skip, chosen-sifted, sifted-as, to-sifted, to-end}
 use Rattle.rules.specs.declared.Cell.{Cell}
 use Rattle.rules.specs.Cells.{nth, width, records, cellsOf}
 use Rattle.words.specs.Words.{nth-cellsOf}
 
 -- at most how many records a stretch has, how many a block, and how many blocks a stretch
-abbrev pub stretch : ℕ
-stretch = 256
+abbrev pub stretchSize : ℕ
+stretchSize = 256
 
 abbrev pub block : ℕ
 block = 8
@@ -43,15 +43,15 @@ liveBits = 4294967295
 pub record Stretch (ws : List ℕ) (k end : ℕ) : Type 0 where
   pub forth : k ≤ end
   pub inside : end ≤ records ws
-  pub short : end ≤ k + stretch
+  pub short : end ≤ k + stretchSize
 
 -- and are one up to where `stretch_end` says
-pub stretch-at : {ws : List ℕ} {k n end : ℕ} → k < n → n ≡ records ws → end ≡ min (k + stretch) n → Stretch ws k end
-stretch-at l r e = record { forth = omega arith; inside = omega arith; short = omega arith }
+pub stretch-from : {ws : List ℕ} {k n end : ℕ} → k < n → n ≡ records ws → end ≡ min (k + stretchSize) n → Stretch ws k end
+stretch-from l r e = record { forth = omega arith; inside = omega arith; short = omega arith }
 
 -- the place of record x of the stretch that begins at record k has one of `bits`
-unfoldable pub has : List ℕ → ℕ → ℕ → ℕ → Bool
-has ws k bits x = not (eqb (bitAnd (nth (cellsOf ws) (k + x) .place) bits) 0)
+unfoldable pub hasBits : List ℕ → ℕ → ℕ → ℕ → Bool
+hasBits ws k bits x = not (eqb (bitAnd (nth (cellsOf ws) (k + x) .place) bits) 0)
 
 -- it has none of them
 abbrev pub Lacks : List ℕ → ℕ → ℕ → ℕ → Type 0
@@ -63,21 +63,26 @@ BlockLacks ws k bits = Block block (Lacks ws k bits)
 
 -- the first m numbers of the list are those of the n records from k on that have one of `bits`, in rising order
 pub record Listed (ws : List ℕ) (k n bits : ℕ) (list : List ℕ) (m : ℕ) : Type 0 where
-  pub long : length list ≡ stretch
-  pub numbers : Chosen (has ws k bits) n list m
+  pub long : length list ≡ stretchSize
+  pub numbers : Chosen (hasBits ws k bits) n list m
+
+-- which settles how many they are and which; what stands behind them is left open, and whoever reads m of them cannot tell
+pub listed-settled : {ws : List ℕ} {k n bits : ℕ} {list other : List ℕ} {m r : ℕ} → Listed ws k n bits list m → Listed ws k n bits other r
+    → (m ≡ r) × (take m list ≡ take r other)
+listed-settled d e = chosen-settled (d .numbers) (e .numbers)
 
 module _ (ws : List ℕ) (k bits : ℕ) where
-  lacks-has : (x : ℕ) → No (has ws k bits x) → Lacks ws k bits x
-  unfolding has
+  lacks-has : (x : ℕ) → No (hasBits ws k bits x) → Lacks ws k bits x
+  unfolding hasBits
   lacks-has x h = eqb-true _ 0 (to-so _ h)
 
-  has-not : (x : ℕ) → Lacks ws k bits x → No (has ws k bits x)
-  unfolding has
+  has-not : (x : ℕ) → Lacks ws k bits x → No (hasBits ws k bits x)
+  unfolding hasBits
   has-not x e = rw (eq-eqb _ 0 e)
 
   -- by the word that was read
-  word-has : (x : ℕ) → k + x < records ws → has ws k bits x ≡ not (eqb (bitAnd (getD ws ((k + x) * width) 0) bits) 0)
-  unfolding has
+  word-has : (x : ℕ) → k + x < records ws → hasBits ws k bits x ≡ not (eqb (bitAnd (getD ws ((k + x) * width) 0) bits) 0)
+  unfolding hasBits
   word-has x l = ap (λ (c : Cell). not (eqb (bitAnd (c .place) bits) 0)) (nth-cellsOf ws (k + x) l)
 
   pub lacks-word : (x : ℕ) → k + x < records ws → bitAnd (getD ws ((k + x) * width) 0) bits ≡ 0 → Lacks ws k bits x
@@ -90,23 +95,23 @@ module _ (ws : List ℕ) (k bits : ℕ) where
       rw e at (h (eqb-true r 0 (to-so (eqb r 0) q)) j l)
 
 -- A pass that lists: where it begins, one record more, and records that it need not look at
-pub listed-none : (ws : List ℕ) (k bits : ℕ) {list : List ℕ} → length list ≡ stretch → Listed ws k 0 bits list 0
-listed-none ws k bits {list} e = record { long = e; numbers = chosen-none (has ws k bits) list }
+pub listed-none : (ws : List ℕ) (k bits : ℕ) {list : List ℕ} → length list ≡ stretchSize → Listed ws k 0 bits list 0
+listed-none ws k bits {list} e = record { long = e; numbers = chosen-none (hasBits ws k bits) list }
 
 module _ {ws : List ℕ} {k n bits : ℕ} {list : List ℕ} {m : ℕ} (d : Listed ws k n bits list m) where
   pub listed-sifted : Sifted (Lacks ws k bits) list m n
-  listed-sifted = sifted-as (λ x l h. lacks-has ws k bits x h) (chosen-sifted (has ws k bits) (d .numbers))
+  listed-sifted = sifted-as (λ x l h. lacks-has ws k bits x h) (chosen-sifted (hasBits ws k bits) (d .numbers))
 
   -- the number of record n is written behind those listed, and stays by its place
-  pub listed-more : {r : ℕ} → n < stretch → k + n < records ws → r ≡ bit (not (eqb (bitAnd (getD ws ((k + n) * width) 0) bits) 0))
+  pub listed-more : {r : ℕ} → n < stretchSize → k + n < records ws → r ≡ bit (not (eqb (bitAnd (getD ws ((k + n) * width) 0) bits) 0))
       → Listed ws k (n + 1) bits (set list m n) (m + r)
   listed-more l h e = record {
     long = length-set list m n ∙ d .long;
-    numbers = rw (e, sym (word-has ws k bits n h)) (chosen-more (has ws k bits) (d .numbers) (omega (arith, d .long, listed-sifted .few)));
+    numbers = rw (e, sym (word-has ws k bits n h)) (chosen-more (hasBits ws k bits) (d .numbers) (omega (arith, d .long, listed-sifted .few)));
   }
 
   pub listed-skip : (x : ℕ) → n ≤ x → ((y : ℕ) → n ≤ y → y < x → Lacks ws k bits y) → Listed ws k x bits list m
-  listed-skip x l h = record { long = d .long; numbers = chosen-skip (has ws k bits) x (d .numbers) l (λ y a b. has-not ws k bits y (h y a b)) }
+  listed-skip x l h = record { long = d .long; numbers = chosen-skip (hasBits ws k bits) x (d .numbers) l (λ y a b. has-not ws k bits y (h y a b)) }
 
 -- A walk over what is listed of a stretch, from its first record to its end: what holds of the records below k, and is kept by each that lacks the
 -- bits, is brought to the next record listed and from the last one to the end.
@@ -140,9 +145,9 @@ pub record Pass (P : ℕ → Type 0) (ws : List ℕ) (k end bits : ℕ) (list : 
   pub below : P (k + past list j)
 
 -- in turn j: the record listed is one of the stretch, and P holds of those below it
-pub record Turn (P : ℕ → Type 0) (ws : List ℕ) (k end : ℕ) (list : List ℕ) (j : ℕ) : Type 0 where
+pub record Visit (P : ℕ → Type 0) (ws : List ℕ) (k end : ℕ) (list : List ℕ) (j : ℕ) : Type 0 where
   pub index : j < length list
-  pub small : getD list j 0 < stretch
+  pub small : getD list j 0 < stretchSize
   pub here : k + getD list j 0 < end
   pub inside : k + getD list j 0 < records ws
   pub below : P (k + getD list j 0)
@@ -161,7 +166,7 @@ module _ {P : ℕ → Type 0} {ws : List ℕ} {k end bits : ℕ} {list : List �
     kept-here : (x : ℕ) → k ≤ x → x < end → bitAnd (nth (cellsOf ws) x .place) bits ≡ 0 → P x → P (x + 1)
     kept-here x a b = keeps x (omega (arith, p .stretch))
 
-    pub pass-turn : j < m → Turn P ws k end list j
+    pub pass-turn : j < m → Visit P ws k end list j
     pass-turn l =
         let d = listed-sifted (p .listed) in
         let s = p .stretch in

@@ -10,10 +10,10 @@ ghost use lib.ListN.{length};
 ghost use Rattle.laws.specs.Count.{bit};
 ghost use Rattle.laws.specs.Sifted.{Sifted, Chosen};
 ghost use Rattle.rules.specs.Cells.{records};
-ghost use Rattle.sift.specs.Stretch.{stretch, block, blockCount, Lacks, BlockLacks, has, Stretch, Listed};
+ghost use Rattle.sift.specs.Stretch.{stretchSize, block, blockCount, Lacks, BlockLacks, Stretch, Listed};
 
 // How many records are listed at a time, so that a number of one fits a byte; how many of them are looked at together; and how many such blocks a
-// stretch has.
+// stretch has: `stretchSize`, `block` and `blockCount` of specs/.
 pub const STRETCH: usize = 256;
 
 pub const BLOCK: usize = 8;
@@ -27,10 +27,10 @@ pub const READY: u32 = 2;
 
 pub const LIVE: u32 = 4_294_967_295;
 
-// Where the stretch that begins at record k of n ends: with the last record, if none too many are left.
+// Where the stretch that begins at record k of n ends: a stretch's length on, or with the last record.
 pub fn stretch_end(k: usize, n: usize) -> usize
     requires { ⌜ k < n ⌝ }
-    ensures { λ r. ⌜ r ≡ min (k + stretch) n ⌝ }
+    ensures { λ r. ⌜ r ≡ min (k + stretchSize) n ⌝ }
 {
     if n - k < STRETCH {
         return n;
@@ -87,7 +87,7 @@ fn sift_between(
     list: &mut [u8; STRETCH],
     found: usize,
 ) -> usize
-    requires { ⌜ (from ≤ to) × (to ≤ stretch) × (k + to ≤ records (now table)) ⌝ }
+    requires { ⌜ (from ≤ to) × (to ≤ stretchSize) × (k + to ≤ records (now table)) ⌝ }
     requires { ⌜ Listed (now table) k from bits (now list) found ⌝ }
     ensures { λ r. ⌜ Listed (now (table .entry)) k to bits (now (list .exit)) r ⌝ }
 {
@@ -112,8 +112,8 @@ pub fn sift_within(
     count: usize,
     list: &mut [u8; STRETCH],
 ) -> usize
-    requires { ⌜ (size ≤ stretch) × (k + size ≤ records (now table)) ⌝ }
-    requires { ⌜ (count ≤ length (now blocks)) × (length (now list) ≡ stretch) ⌝ }
+    requires { ⌜ (size ≤ stretchSize) × (k + size ≤ records (now table)) ⌝ }
+    requires { ⌜ (count ≤ length (now blocks)) × (length (now list) ≡ stretchSize) ⌝ }
     requires { ⌜ Sifted (BlockLacks (now table) k bits) (now blocks) count (size / block) ⌝ }
     ensures { λ r. ⌜ Listed (now (table .entry)) k size bits (now (list .exit)) r ⌝ }
 {
@@ -138,7 +138,7 @@ pub fn sift_records(
     list: &mut [u8; STRETCH],
 ) -> usize
     requires { ⌜ Stretch (now table) k end ⌝ }
-    requires { ⌜ length (now list) ≡ stretch ⌝ }
+    requires { ⌜ length (now list) ≡ stretchSize ⌝ }
     ensures { λ r. ⌜ Listed (now (table .entry)) k (end - k) bits (now (list .exit)) r ⌝ }
 {
     let size = end - k;

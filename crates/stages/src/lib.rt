@@ -8,7 +8,7 @@ ghost use Rattle.rules.specs.Answers.{arrivalWidth, exhaledWidth, live};
 ghost use Rattle.rules.specs.Cells.{mostPorts, mostRecords, slotOf, records, cellsOf, fit};
 ghost use Rattle.rules.specs.Phases.{inhale, readings, phases, exhale, exhaled};
 ghost use Rattle.rules.specs.Phases.{matches as matchesOf};
-ghost use Rattle.words.specs.Words.{changed, withRecords};
+ghost use Rattle.words.specs.Words.{changed};
 ghost use Rattle.matching.specs.Ready.{Orderly};
 
 #[no_mangle]
@@ -60,8 +60,7 @@ pub extern "C" fn treikwater_stage_phases(
 )
     requires { ⌜ Orderly ports (now table) ⌝ }
     requires { ⌜ length (now matches) ≡ speedup * ports ⌝ }
-    ensures { λ _. ⌜ now (table .exit)
-        ≡ withRecords (now (table .entry)) (phases ports (readings (cellsOf (now (table .entry)))) (cellsOf (now (table .entry))) speedup) ⌝ }
+    ensures { λ _. ⌜ now (table .exit) ≡ changed (λ cs. phases ports (readings cs) cs speedup) (now (table .entry)) ⌝ }
     ensures { λ _. ⌜ now (matches .exit) ≡ matchesOf ports (readings (cellsOf (now (table .entry)))) (cellsOf (now (table .entry))) speedup ⌝ }
 {
     let r = table::read(table);

@@ -154,9 +154,9 @@ unfolding isReadyFor isReady
 oldest-skip cs o k h = sym (least-more _ _ k ∙ sooner-skip _ k (oldestBelow cs o k) _ (rw (ne-eqb _ _ h)))
 
 -- and the same pass: what was found below record k
-pub record Oldest (ws : List ℕ) (o : Output) (found : Found) (k : ℕ) : Type 0 where
+pub record OldestFound (ws : List ℕ) (o : Output) (found : Found) (k : ℕ) : Type 0 where
   pub is : found ≡ oldestBelow (cellsOf ws) o k
 
 pub oldest-keeps : {ws : List ℕ} {o : Output} {found : Found} (x : ℕ) → x < records ws → bitAnd (nth (cellsOf ws) x .place) readyBit ≡ 0
-    → Oldest ws o found x → Oldest ws o found (x + 1)
+    → OldestFound ws o found x → OldestFound ws o found (x + 1)
 oldest-keeps {ws} {o} x l h c = record { is = c .is ∙ oldest-skip (cellsOf ws) o x (and-none _ readyBit (omega arith) h) }

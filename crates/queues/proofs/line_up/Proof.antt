@@ -7,7 +7,7 @@ use lib.ListN.{length, length-replicate}
 use denote.Ref.{now}
 use Rattle.rules.specs.Cells.{cellsOf}
 use Rattle.words.specs.Words.{length-cellsOf}
-use Rattle.sift.specs.Stretch.{stretch, waitingBit, Stretch, Pass, Turn, stretch-at, pass-begins, pass-turn, pass-more, pass-ends}
+use Rattle.sift.specs.Stretch.{stretchSize, waitingBit, Stretch, Pass, Visit, stretch-from, pass-begins, pass-turn, pass-more, pass-ends}
 use Rattle.queues.specs.Layout.{queueWords}
 use Rattle.queues.specs.Queues.{joined, linedTo, linedUp}
 use Rattle.queues.specs.Lining.{lined-zero, lined-more, lined-to, lined-up, lined-keeps}
@@ -21,7 +21,7 @@ abbrev μ-sifted : tie.MeasureT-sifted
 μ-sifted table queues₀ n list k end m j₀ queues j = m - j
 
 abbrev Inv-stretches : tie.InvT-stretches
-Inv-stretches table queues₀ n list₀ k₀ queues list k = (k ≤ n) × (length list ≡ stretch) × (queues ≡ linedTo (cellsOf table) k)
+Inv-stretches table queues₀ n list₀ k₀ queues list k = (k ≤ n) × (length list ≡ stretchSize) × (queues ≡ linedTo (cellsOf table) k)
 
 abbrev μ-stretches : tie.MeasureT-stretches
 μ-stretches table queues₀ n list₀ k₀ queues list k = n - k
@@ -32,7 +32,7 @@ start c = c .before .before .before .before
 -- the records from k on, up to `end`, are a stretch
 here : (c : tie.After-stretch-end Inv-sifted μ-sifted Inv-stretches μ-stretches)
     → Stretch (now (start (c .before .before) .args .table)) (c .before .before .stretches .k) (c .stretch-end .result)
-here c = stretch-at (c .before .stretches-test .taken) (c .before .before .before .record-count .ensures) (c .stretch-end .ensures)
+here c = stretch-from (c .before .stretches-test .taken) (c .before .before .before .record-count .ensures) (c .stretch-end .ensures)
 
 record-count-requires : tie.Need-record-count-requires Inv-sifted μ-sifted Inv-stretches μ-stretches
 record-count-requires c κs = tt
@@ -58,7 +58,7 @@ listed c = c .before .before .sift-records .last .1 .1 .1 .1 .0
 
 turn : (c : tie.In-sifted Inv-sifted μ-sifted Inv-stretches μ-stretches)
     → let t = now (start (outer c) .args .table) in
-    Turn (λ x. c .before .sifted .queues ≡ linedTo (cellsOf t) x) t (outer c .stretches .k) (c .before .before .before .before .stretch-end .result) (listed c) (c .before .sifted .j)
+    Visit (λ x. c .before .sifted .queues ≡ linedTo (cellsOf t) x) t (outer c .stretches .k) (c .before .before .before .before .stretch-end .result) (listed c) (c .before .sifted .j)
 turn c = pass-turn (c .before .sifted .inv) (lined-keeps (now (start (outer c) .args .table))) (c .sifted-test .taken)
 
 array-read-join : tie.Need-array-read-join Inv-sifted μ-sifted Inv-stretches μ-stretches

@@ -16,7 +16,7 @@ same-length-2 : tie.Need-same-length-2
 same-length-2 c = search needs
 
 returns : tie.Need-returns
-returns c = rw (← c .before .before .before .before .before .before .before .read .ensures) (c .before .before .before .before .transfers .ensures)
+returns c = let t = c .before .before .before .before in rw (← t .before .before .before .read .ensures) (t .transfers .ensures)
 
 pub treikwater-stage-phases-spec : {M : Type 1} → statement M
 treikwater-stage-phases-spec = tie.close (tie.spec read-requires transfers-requires same-length same-length-2 returns)

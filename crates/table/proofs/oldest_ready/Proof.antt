@@ -8,19 +8,19 @@ use Rattle.laws.specs.Least.{least-zero, least-more, least-below}
 use Rattle.rules.specs.Cells.{cellsOf}
 use Rattle.rules.specs.Phases.{oldestReady}
 use Rattle.words.specs.Words.{length-cellsOf}
-use Rattle.sift.specs.Stretch.{stretch, readyBit, Stretch, Pass, stretch-at, pass-begins, pass-turn, pass-more, pass-ends}
-use Rattle.table.specs.Reading.{Oldest, oldest-keeps}
+use Rattle.sift.specs.Stretch.{stretchSize, readyBit, Stretch, Pass, stretch-from, pass-begins, pass-turn, pass-more, pass-ends}
+use Rattle.table.specs.Reading.{OldestFound, oldest-keeps}
 use Rattle.table.proofs.oldest_ready.Statement.{statement}
 use Rattle.table.proofs.oldest_ready.Tie as tie
 
 abbrev Inv-sifted : tie.InvT-sifted
-Inv-sifted table o n found₀ list k end m j₀ found j = Pass (Oldest table o found) table k end readyBit list m j
+Inv-sifted table o n found₀ list k end m j₀ found j = Pass (OldestFound table o found) table k end readyBit list m j
 
 abbrev μ-sifted : tie.MeasureT-sifted
 μ-sifted table o n found₀ list k end m j₀ found j = m - j
 
 abbrev Inv-stretches : tie.InvT-stretches
-Inv-stretches table o n found₀ list₀ k₀ found list k = (k ≤ n) × (length list ≡ stretch) × Oldest table o found k
+Inv-stretches table o n found₀ list₀ k₀ found list k = (k ≤ n) × (length list ≡ stretchSize) × OldestFound table o found k
 
 abbrev μ-stretches : tie.MeasureT-stretches
 μ-stretches table o n found₀ list₀ k₀ found list k = n - k
@@ -28,7 +28,7 @@ abbrev μ-stretches : tie.MeasureT-stretches
 -- the records from k on, up to `end`, are a stretch
 here : (c : tie.After-stretch-end Inv-sifted μ-sifted Inv-stretches μ-stretches)
     → Stretch (now (c .before .before .before .before .before .args .table)) (c .before .before .stretches .k) (c .stretch-end .result)
-here c = stretch-at (c .before .stretches-test .taken) (c .before .before .before .record-count .ensures) (c .stretch-end .ensures)
+here c = stretch-from (c .before .stretches-test .taken) (c .before .before .before .record-count .ensures) (c .stretch-end .ensures)
 
 record-count-requires : tie.Need-record-count-requires Inv-sifted μ-sifted Inv-stretches μ-stretches
 record-count-requires c κs = tt

@@ -6,7 +6,7 @@ use lib.ListN.{length}
 use denote.Ref.{now}
 use Rattle.rules.specs.Cells.{mostPorts, mostRecords, records, cellsOf}
 use Rattle.words.specs.Words.{length-cellsOf}
-use Rattle.sift.specs.Stretch.{stretch, readyBit, Stretch, Pass, stretch-at, pass-begins, pass-turn, pass-more, pass-ends}
+use Rattle.sift.specs.Stretch.{stretchSize, readyBit, Stretch, Pass, stretch-from, pass-begins, pass-turn, pass-more, pass-ends}
 use Rattle.table.specs.Reading.{bumped, Counted, counted-keeps, counted-long, counted-le, readings-none, readings-more, readings-all}
 use Rattle.table.proofs.read.Statement.{statement}
 use Rattle.table.proofs.read.Tie as tie
@@ -18,7 +18,7 @@ abbrev μ-sifted : tie.MeasureT-sifted
 μ-sifted table n counts₀ list k end m j₀ counts j = m - j
 
 abbrev Inv-stretches : tie.InvT-stretches
-Inv-stretches table n counts₀ list₀ k₀ counts list k = (k ≤ n) × (length list ≡ stretch) × Counted table counts k
+Inv-stretches table n counts₀ list₀ k₀ counts list k = (k ≤ n) × (length list ≡ stretchSize) × Counted table counts k
 
 abbrev μ-stretches : tie.MeasureT-stretches
 μ-stretches table n counts₀ list₀ k₀ counts list k = n - k
@@ -26,7 +26,7 @@ abbrev μ-stretches : tie.MeasureT-stretches
 -- the records from k on, up to `end`, are a stretch
 here : (c : tie.After-stretch-end Inv-sifted μ-sifted Inv-stretches μ-stretches)
     → Stretch (now (c .before .before .before .before .before .args .table)) (c .before .before .stretches .k) (c .stretch-end .result)
-here c = stretch-at (c .before .stretches-test .taken) (c .before .before .before .record-count .ensures) (c .stretch-end .ensures)
+here c = stretch-from (c .before .stretches-test .taken) (c .before .before .before .record-count .ensures) (c .stretch-end .ensures)
 
 -- they are not more than the counts can hold
 abbrev start : tie.In-sifted Inv-sifted μ-sifted Inv-stretches μ-stretches → tie.Start Inv-sifted μ-sifted Inv-stretches μ-stretches
