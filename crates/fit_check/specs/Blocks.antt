@@ -16,7 +16,7 @@ use Rattle.laws.specs.Sifted.{Sifted, Block, past, blocks-between, blocks-behin
 use Rattle.rules.specs.declared.Cell.{Cell}
 use Rattle.rules.specs.Cells.{free, nth, width, records, cellAt, cellsOf}
 use Rattle.words.specs.Words.{cell-ext, field-at, free-field, nth-cellsOf, in-words}
-use Rattle.sift.specs.Stretch.{stretch, block, blockCount, BlockLacks}
+use Rattle.sift.specs.Stretch.{stretchSize, block, blockCount, BlockLacks}
 
 -- so many blocks from record k on
 pub record Blocks (ws : List ℕ) (k count : ℕ) : Type 0 where
@@ -26,7 +26,7 @@ pub record Blocks (ws : List ℕ) (k count : ℕ) : Type 0 where
 -- so many records from k on, of which so many blocks are listed
 pub record Within (ws : List ℕ) (k size : ℕ) (blocks : List ℕ) (count : ℕ) : Type 0 where
   pub inside : k + size ≤ records ws
-  pub short : size ≤ stretch
+  pub short : size ≤ stretchSize
   pub listed : count ≤ length blocks
 
 -- record x of the stretch that begins at record k is free

@@ -15,7 +15,7 @@ ghost use Rattle.laws.specs.Bits.{orTo};
 ghost use Rattle.laws.specs.Sifted.{Sifted};
 ghost use Rattle.rules.specs.Cells.{width, records, cellsOf, sameEntry, isAlone, fit};
 ghost use Rattle.words.specs.Behind.{behind};
-ghost use Rattle.sift.specs.Stretch.{stretch, block, blockCount, Stretch};
+ghost use Rattle.sift.specs.Stretch.{stretchSize, block, blockCount, Stretch};
 ghost use Rattle.fit_check.specs.Sound.{soundBy, isStray, Strays};
 ghost use Rattle.fit_check.specs.Blocks.{Free, BlockFree, Blocks, Within};
 ghost use Rattle.fit_check.specs.Marks.{markRows, Seen, Marked, Told};
@@ -208,7 +208,7 @@ struct Survey {
 // Lists the live records of the stretch from record k to record `end`, numbered from k on.
 fn list_live(table: &[u32], k: usize, end: usize, list: &mut [u8; sift::STRETCH]) -> Survey
     requires { ⌜ Stretch (now table) k end ⌝ }
-    requires { ⌜ length (now list) ≡ stretch ⌝ }
+    requires { ⌜ length (now list) ≡ stretchSize ⌝ }
     ensures { λ r. ⌜ Surveyed (now (table .entry)) k end (now (list .exit)) r ⌝ }
 {
     let size = end - k;

@@ -50,7 +50,7 @@ sifted-as {ws = ws} h d = record {
 
 module _ {out : ℕ → Type 0} {ws : List ℕ} {m n : ℕ} (d : Sifted out ws m n) where
   -- numbers that are not looked at
-  pub sifted-skip : (k : ℕ) → n ≤ k → ((x : ℕ) → n ≤ x → x < k → out x) → Sifted out ws m k
+  sifted-skip : (k : ℕ) → n ≤ k → ((x : ℕ) → n ≤ x → x < k → out x) → Sifted out ws m k
   sifted-skip k l h = record {
     few = omega (arith, d .few);
     reach = omega (arith, d .reach);
@@ -60,7 +60,7 @@ module _ {out : ℕ → Type 0} {ws : List ℕ} {m n : ℕ} (d : Sifted out ws m
   }
 
   -- another list that begins with the same numbers
-  pub sifted-like : (vs : List ℕ) → ((j : ℕ) → j < m → getD vs j 0 ≡ getD ws j 0) → Sifted out vs m n
+  sifted-like : (vs : List ℕ) → ((j : ℕ) → j < m → getD vs j 0 ≡ getD ws j 0) → Sifted out vs m n
   sifted-like vs same = record {
     few = d .few;
     reach = rw (same-past m (omega arith)) (d .reach);
@@ -74,7 +74,7 @@ module _ {out : ℕ → Type 0} {ws : List ℕ} {m n : ℕ} (d : Sifted out ws m
       same-past (suc j) i = ap suc (same j i)
 
   -- the next number stays
-  pub sifted-next : getD ws m 0 ≡ n → Sifted out ws (suc m) (suc n)
+  sifted-next : getD ws m 0 ≡ n → Sifted out ws (suc m) (suc n)
   sifted-next e = record {
     few = omega (arith, d .few);
     reach = omega arith;

@@ -113,28 +113,6 @@ module _ {ws : List ℕ} {k n bits : ℕ} {list : List ℕ} {m : ℕ} (d : Liste
   pub listed-skip : (x : ℕ) → n ≤ x → ((y : ℕ) → n ≤ y → y < x → Lacks ws k bits y) → Listed ws k x bits list m
   listed-skip x l h = record { long = d .long; numbers = chosen-skip (hasBits ws k bits) x (d .numbers) l (λ y a b. has-not ws k bits y (h y a b)) }
 
--- A walk over what is listed of a stretch, from its first record to its end: what holds of the records below k, and is kept by each that lacks the
--- bits, is brought to the next record listed and from the last one to the end.
-module _ (ws : List ℕ) (bits : ℕ) {list : List ℕ} {k end m : ℕ} (d : Sifted (Lacks ws k bits) list m (end - k)) (l : k ≤ end) (P : ℕ → Type 0)
-    (keeps : (x : ℕ) → k ≤ x → x < end → bitAnd (nth (cellsOf ws) x .place) bits ≡ 0 → P x → P (x + 1)) where
-  kept : (x : ℕ) → x < end - k → Lacks ws k bits x → P (k + x) → P (k + (x + 1))
-  kept x h i p = let e : k + x + 1 ≡ k + (x + 1) = omega arith in rw e at (keeps (k + x) (omega arith) (omega arith) i p)
-
-  pub walk-to : (j : ℕ) → j < m → P (k + past list j) → P (k + getD list j 0)
-  walk-to j h p = to-sifted d (λ (x : ℕ). P (k + x)) kept j h p
-
-  pub walk-end : P (k + past list m) → P end
-  walk-end p = let e : k + (end - k) ≡ end = omega arith in rw e at (to-end d (λ (x : ℕ). P (k + x)) kept p)
-
--- behind a record listed
-pub past-more : (list : List ℕ) (k j : ℕ) → k + past list (j + 1) ≡ k + getD list j 0 + 1
-past-more list k j = rw (add-one j) (omega arith)
-
--- the records listed are in the stretch
-pub sifted-inside : (ws : List ℕ) (bits : ℕ) {list : List ℕ} {k end m : ℕ} → Sifted (Lacks ws k bits) list m (end - k) → k ≤ end
-    → (j : ℕ) → j < m → k + getD list j 0 < end
-sifted-inside ws bits d l j h = omega (arith, d .rising j h .1)
-
 -- A pass over the records listed of a stretch ---------------------------------------------------------
 
 -- before turn j: P holds of the records below the next one listed
@@ -157,14 +135,16 @@ pub pass-begins : {P : ℕ → Type 0} {ws : List ℕ} {k end bits : ℕ} {list 
 pass-begins {k = k} s d p = record { stretch = s; listed = d; turn = omega arith; below = rw (add-zero k) p }
 
 module _ {P : ℕ → Type 0} {ws : List ℕ} {k end bits : ℕ} {list : List ℕ} {m j : ℕ} (p : Pass P ws k end bits list m j) where
-  -- what is listed behind record j, after the state has become one of which Q holds
+  -- the next turn, after the state has become one of which Q holds
   pub pass-more : {Q : ℕ → Type 0} → j < m → Q (k + getD list j 0 + 1) → Pass Q ws k end bits list m (j + 1)
-  pass-more l q = record { stretch = p .stretch; listed = p .listed; turn = omega arith; below = rw (past-more list k j) q }
+  pass-more l q =
+      let e : k + past list (j + 1) ≡ k + getD list j 0 + 1 = rw (add-one j) (omega arith) in
+      record { stretch = p .stretch; listed = p .listed; turn = omega arith; below = rw e q }
 
   -- P is kept by each record that lacks the bits
   module _ (keeps : (x : ℕ) → x < records ws → bitAnd (nth (cellsOf ws) x .place) bits ≡ 0 → P x → P (x + 1)) where
-    kept-here : (x : ℕ) → k ≤ x → x < end → bitAnd (nth (cellsOf ws) x .place) bits ≡ 0 → P x → P (x + 1)
-    kept-here x a b = keeps x (omega (arith, p .stretch))
+    kept : (x : ℕ) → x < end - k → Lacks ws k bits x → P (k + x) → P (k + (x + 1))
+    kept x h i q = let e : k + x + 1 ≡ k + (x + 1) = omega arith in rw e at (keeps (k + x) (omega (arith, p .stretch)) i q)
 
     pub pass-turn : j < m → Visit P ws k end list j
     pass-turn l =
@@ -176,9 +156,12 @@ module _ {P : ℕ → Type 0} {ws : List ℕ} {k end bits : ℕ} {list : List �
           small = omega (arith, r .1);
           here = omega (arith, r .1);
           inside = omega (arith, r .1);
-          below = walk-to ws bits d (s .forth) P kept-here j l (p .below);
+          below = to-sifted d (λ (x : ℕ). P (k + x)) kept j l (p .below);
         }
 
     -- after the last turn it holds of the whole stretch
     pub pass-ends : m ≤ j → P end
-    pass-ends l = let e : j ≡ m = omega arith in walk-end ws bits (listed-sifted (p .listed)) (p .stretch .forth) P kept-here (rw e at (p .below))
+    pass-ends l =
+        let e : j ≡ m = omega (arith, p .turn) in
+        let q : k + (end - k) ≡ end = omega (arith, p .stretch) in
+        rw q at (to-end (listed-sifted (p .listed)) (λ (x : ℕ). P (k + x)) kept (rw e at (p .below)))

@@ -26,7 +26,7 @@ module _ (ws : List ℕ) (k : ℕ) (c : Cell) where
   many = length-set (cellsOf ws) k c ∙ length-cellsOf ws
 
   -- they are as many as they were, and so are the records
-  pub length-stored : length (stored ws k c) ≡ length ws
+  length-stored : length (stored ws k c) ≡ length ws
   length-stored = length-with ws (set (cellsOf ws) k c) many
 
   pub records-stored : records (stored ws k c) ≡ records ws

@@ -38,7 +38,7 @@ field-at ws k (suc (suc (suc (suc zero)))) l = refl
 field-at ws k (suc (suc (suc (suc (suc r))))) l = absurd (omega arith)
 
 -- so records with the same words are the same cell
-pub cellAt-ext : (ws vs : List ℕ) (j k : ℕ) → ((r : ℕ) → r < width → getD ws (j * width + r) 0 ≡ getD vs (k * width + r) 0) → cellAt ws j ≡ cellAt vs k
+cellAt-ext : (ws vs : List ℕ) (j k : ℕ) → ((r : ℕ) → r < width → getD ws (j * width + r) 0 ≡ getD vs (k * width + r) 0) → cellAt ws j ≡ cellAt vs k
 cellAt-ext ws vs j k h = cell-ext (cellAt ws j) (cellAt vs k) (λ r l. field-at ws j r l ∙ h r l ∙ sym (field-at vs k r l))
 
 -- every field of a free record is 0
@@ -122,7 +122,7 @@ length-store ws k c = length-sets ws (k * width) (fields c)
 -- Words vs, of which record k alone differs from ws and is c. A store of its fields is one way to that, and a store of its place another.
 module _ (ws vs : List ℕ) (k : ℕ) (h : k < records ws) (c : Cell) (e : length vs ≡ length ws) (here : cellAt vs k ≡ c)
     (there : (j : ℕ) → (j ≡ k → ⊥) → cellAt vs j ≡ cellAt ws j) where
-  pub cellsOf-changed : cellsOf vs ≡ set (cellsOf ws) k c
+  cellsOf-changed : cellsOf vs ≡ set (cellsOf ws) k c
   cellsOf-changed =
       ext-getD free (cellsOf vs) (set (cellsOf ws) k c) (length-cellsOf vs ∙ same-records vs ws e ∙ sym (length-set (cellsOf ws) k c ∙ length-cellsOf ws))
       (λ j l.
@@ -148,7 +148,7 @@ module _ (ws : List ℕ) (cs : List Cell) (e : length cs ≡ records ws) where
   unfolding withRecords records
   length-with = length-append (wordsOf cs) _ ∙ omega (arith, length-wordsOf cs, length-drop (length cs * width) ws, e)
 
-  pub records-with : records (withRecords ws cs) ≡ records ws
+  records-with : records (withRecords ws cs) ≡ records ws
   records-with = same-records (withRecords ws cs) ws length-with
 
   pub cellsOf-with : cellsOf (withRecords ws cs) ≡ cs

@@ -7,7 +7,7 @@ use lib.ListN.{length}
 use denote.Ref.{now}
 use Rattle.rules.specs.Cells.{cellsOf, fit}
 use Rattle.words.specs.Words.{length-cellsOf}
-use Rattle.sift.specs.Stretch.{Stretch, stretch-at}
+use Rattle.sift.specs.Stretch.{Stretch, stretch-from}
 use Rattle.fit_check.specs.Sound.{soundBy}
 use Rattle.fit_check.specs.Walk.{FitSoFar, fit-none}
 use Rattle.fit_check.proofs.is_fit.Statement.{statement}
@@ -38,7 +38,7 @@ stretch-end-requires c κs = omega arith
 -- the stretch of a turn
 stretch : (c : tie.After-stretch-end Inv-loop μ-loop) → let h = c .before .before in
     Stretch (now (entry h .args .table)) (h .loop .k) (c .stretch-end .result)
-stretch c = stretch-at (c .before .loop-test .taken) (c .before .before .before .record-count .ensures) (c .stretch-end .ensures)
+stretch c = stretch-from (c .before .loop-test .taken) (c .before .before .before .record-count .ensures) (c .stretch-end .ensures)
 
 is-stretch-fit-requires : tie.Need-is-stretch-fit-requires Inv-loop μ-loop
 is-stretch-fit-requires c κs = let s = c .before in (stretch s, s .before .before .loop .inv .1)

@@ -7,7 +7,7 @@ use lib.Bits.{bitAnd}
 use lib.ListN.{getD}
 use denote.Ref.{now}
 use Rattle.rules.specs.Cells.{nth, records, cellsOf}
-use Rattle.sift.specs.Stretch.{liveBits, Pass, Turn, pass-begins, pass-turn, pass-more, pass-ends}
+use Rattle.sift.specs.Stretch.{liveBits, Pass, Visit, pass-begins, pass-turn, pass-more, pass-ends}
 use Rattle.fit_check.specs.Sound.{soundBy, soundBy-free}
 use Rattle.fit_check.specs.Walk.{FitWithin, fit-begins, fit-goes-on, fit-keeps, fit-told, fit-fails, stray-unfit}
 use Rattle.fit_check.proofs.is_stretch_fit.Statement.{statement}
@@ -60,7 +60,7 @@ head c = c .before .before
 
 turn : (c : tie.Then2 Inv-loop μ-loop) →
     let a = look (head c) in
-    Turn (within (head c)) (now (entry a .args .table)) (entry a .args .k) (entry a .args .end) (a .list-live .last .1 .1 .1 .0) (head c .loop .j)
+    Visit (within (head c)) (now (entry a .args .table)) (entry a .args .k) (entry a .args .end) (a .list-live .last .1 .1 .1 .0) (head c .loop .j)
 turn c = pass-turn (head c .loop .inv) (keeps (head c)) (c .if2 .taken)
 
 array-read-is-record-fit : tie.Need-array-read-is-record-fit Inv-loop μ-loop
