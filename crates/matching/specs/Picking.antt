@@ -16,14 +16,14 @@ use Rattle.laws.specs.Walk.{over, over-more}
 use Rattle.laws.specs.Count.{any, any→, →any}
 use Rattle.laws.specs.Least.{least, least-same}
 use Rattle.laws.specs.declared.Found.{Found}
-use Rattle.laws.specs.declared.Found.the-variants.{Nothing}
+use Rattle.laws.specs.declared.Found.the-variants.{At, Nothing}
 use Rattle.ports.specs.Ports.{has, Added}
 use Rattle.ports.specs.PortLaws.{has-none}
 use Rattle.rules.specs.declared.Cell.{Cell}
-use Rattle.rules.specs.Cells.{mostPorts, free, placed, nth, inputOf, outputOf, isWaiting, before, records, cellsOf}
+use Rattle.rules.specs.Cells.{mostPorts, free, placed, nth, inputOf, outputOf, isWaiting, before, cellsOf}
 use Rattle.rules.specs.Phases.{conflict, isOpen, firstOpen, none, add, addFound, round, matchOf, isTakenInput, isTakenOutput, moved}
-use Rattle.words.specs.Words.{length-cellsOf, withRecords, length-with, cellsOf-with, with-again, with-own}
-use Rattle.ideal.specs.Cells.{waiting→, conflict→, by-input, by-output, conflict-self, Same, same→, same-refl, same-placed, before-same}
+use Rattle.words.specs.Words.{withRecords, with-long, with-cells, with-then, with-own}
+use Rattle.ideal.specs.Cells.{waiting→, conflict→, by-input, by-output, conflict-self, Same, same-self, placed-same, before-same}
 use Rattle.ideal.specs.Match.{in-add, to-add, self-add, open→, takenIn→, →takenIn, taken→, →taken}
 use Rattle.ideal.specs.Phases.{length-moved, moved-yes, moved-no}
 use Rattle.table.specs.Table.{stored}
@@ -68,8 +68,12 @@ pub record Picked (n : ℕ) (r ws us qs : List ℕ) (q : Taken) (ns : List ℕ) 
 -- What the code's masks say of a record -------------------------------------------------------------
 
 module _ (cs : List Cell) (p : ℕ → Bool) where
+  -- a candidate by the ports that the records of p take
+  abbrev free-of : Cell → Bool
+  free-of c = candidate (λ i. isTakenInput p cs (inputOf i)) (λ o. isTakenOutput p cs (outputOf o)) c
+
   -- a record is open where it is a candidate by the taken ports
-  open-masks : (k : ℕ) → k < length cs → No (p k) → isOpen cs p k ≡ candidate (λ i. isTakenInput p cs (inputOf i)) (λ o. isTakenOutput p cs (outputOf o)) (nth cs k)
+  open-masks : (k : ℕ) → k < length cs → No (p k) → isOpen cs p k ≡ free-of (nth cs k)
   unfolding isOpen candidate waitsAmong
   open-masks k l x = same-test _ _ to from
     where
@@ -77,7 +81,8 @@ module _ (cs : List Cell) (p : ℕ → Bool) where
           → So (isWaiting (nth cs k) && not (isTakenInput p cs (nth cs k .input)) && not (isTakenOutput p cs (nth cs k .output)))
       to h =
           let b = both (isWaiting (nth cs k)) _ h in
-          let clash : (d : ℕ) → d < length cs → So (p d) → So (conflict (nth cs d) (nth cs k)) → ⊥ = λ d i y c. refuted (→any (λ j. p j && conflict (nth cs j) (nth cs k)) (length cs) d i (join _ _ y c)) (denied _ (b .1)) in
+          let clash : (d : ℕ) → d < length cs → So (p d) → So (conflict (nth cs d) (nth cs k)) → ⊥ =
+          λ d i y c. refuted (→any (λ j. p j && conflict (nth cs j) (nth cs k)) (length cs) d i (join _ _ y c)) (denied _ (b .1)) in
           join _ _ (join _ _ (b .0) (deny _ (to-no (λ y. let d = takenIn→ cs p (nth cs k .input) y in clash (d .0) (d .1) (d .2) (by-input _ _ (d .3))))))
           (deny _ (to-no (λ y. let d = taken→ cs p (nth cs k .output) y in clash (d .0) (d .1) (d .2) (by-output _ _ (d .3)))))
 
@@ -90,25 +95,28 @@ module _ (cs : List Cell) (p : ℕ → Bool) where
           (deny _ (to-no (λ y.
           let d = any→ (λ j. p j && conflict (nth cs j) (nth cs k)) (length cs) y in
           let e = both (p (d .0)) _ (d .2) in
-          ⊎-elim (λ i. refuted (→takenIn cs p (nth cs k .input) (d .0) (d .1) (e .0) i) (denied _ (b .1))) (λ o. refuted (→taken cs p (nth cs k .output) (d .0) (d .1) (e .0) o) (denied _ (a .1))) (conflict→ _ _ (e .1)))))
+          ⊎-elim
+          (λ i. refuted (→takenIn cs p (nth cs k .input) (d .0) (d .1) (e .0) i) (denied _ (b .1)))
+          (λ o. refuted (→taken cs p (nth cs k .output) (d .0) (d .1) (e .0) o) (denied _ (a .1)))
+          (conflict→ _ _ (e .1)))))
 
   -- a picked record is not open, and as a ready one it is no candidate
   picked-shut : (k : ℕ) → k < length cs → So (p k) → No (isOpen cs p k)
   picked-shut k l x = to-no (λ h. open→ cs p k h .1 k l x (conflict-self (nth cs k)))
 
-  open-moved : (k : ℕ) → k < length cs → candidate (λ i. isTakenInput p cs (inputOf i)) (λ o. isTakenOutput p cs (outputOf o)) (nth (moved p cs) k) ≡ isOpen cs p k
+  open-moved : (k : ℕ) → k < length cs → free-of (nth (moved p cs) k) ≡ isOpen cs p k
   unfolding candidate waitsAmong isWaiting
   open-moved k l =
       ⊎-elim
-      (λ x. ap (candidate (λ i. isTakenInput p cs (inputOf i)) (λ o. isTakenOutput p cs (outputOf o))) (moved-yes p cs k l x) ∙ sym (picked-shut k l x))
-      (λ x. ap (candidate (λ i. isTakenInput p cs (inputOf i)) (λ o. isTakenOutput p cs (outputOf o))) (moved-no p cs k l x) ∙ sym (open-masks k l x))
+      (λ x. ap free-of (moved-yes p cs k l x) ∙ sym (picked-shut k l x))
+      (λ x. ap free-of (moved-no p cs k l x) ∙ sym (open-masks k l x))
       (passes (p k))
 
   moved-same : (k : ℕ) → k < length cs → Same (nth (moved p cs) k) (nth cs k)
   moved-same k l =
       ⊎-elim
-      (λ x. rw (moved-yes p cs k l x) (same→ _ _ (same-placed 2 (nth cs k))))
-      (λ x. rw (moved-no p cs k l x) (same→ _ _ (same-refl (nth cs k))))
+      (λ x. rw (moved-yes p cs k l x) (placed-same 2 (nth cs k)))
+      (λ x. rw (moved-no p cs k l x) (same-self (nth cs k)))
       (passes (p k))
 
 -- Rounds -------------------------------------------------------------------------------------------
@@ -142,26 +150,22 @@ candidate-same : (a b c d : ℕ → Bool) → ((i : ℕ) → a i ≡ b i) → ((
 unfolding candidate waitsAmong
 candidate-same a b c d e f x = rw (e (x .input .0), f (x .output .0))
 
--- the table with the picked records ready has as many records and words
-many : (ws : List ℕ) (p : ℕ → Bool) → length (moved p (cellsOf ws)) ≡ records ws
-many ws p = length-moved p (cellsOf ws) ∙ length-cellsOf ws
-
 module _ {ws : List ℕ} {p : ℕ → Bool} {us : List ℕ} {q : Taken} {ns : List ℕ} (s : Shows ws p us q ns) where
   abbrev cs : List Cell
   cs = cellsOf ws
 
-  pub shown-cells : cellsOf us ≡ moved p (cellsOf ws)
-  shown-cells = ap cellsOf (s .table) ∙ cellsOf-with ws (moved p cs) (many ws p)
+  shown-cells : cellsOf us ≡ moved p (cellsOf ws)
+  shown-cells = with-cells ws (moved p cs) (s .table) (length-moved p cs)
 
   pub shown-long : length us ≡ length ws
-  shown-long = ap length (s .table) ∙ length-with ws (moved p cs) (many ws p)
+  shown-long = with-long ws (moved p cs) (s .table) (length-moved p cs)
 
   -- what the scan of the code finds is what the rules' round picks
   pub finds : (r : List ℕ) → firstCandidate r (has (q .inputs)) (has (q .outputs)) (cellsOf us) ≡ firstOpen r (cellsOf ws) p
   unfolding firstCandidate firstOpen
   finds r =
       ap (λ (v : List Cell). firstCandidate r (has (q .inputs)) (has (q .outputs)) v) shown-cells
-      ∙ ap (λ (n : ℕ). least (λ k. candidate (has (q .inputs)) (has (q .outputs)) (nth (moved p cs) k)) (λ i j. before r (nth (moved p cs) i) (nth (moved p cs) j)) n)
+      ∙ ap (least (λ k. candidate (has (q .inputs)) (has (q .outputs)) (nth (moved p cs) k)) (λ i j. before r (nth (moved p cs) i) (nth (moved p cs) j)))
       (length-moved p cs)
       ∙ least-same _ (isOpen cs p) _ (λ i j. before r (nth cs i) (nth cs j)) (length cs)
       (λ k l. candidate-same (has (q .inputs)) _ (has (q .outputs)) _ (s .inputs) (s .outputs) (nth (moved p cs) k) ∙ open-moved cs p k l)
@@ -219,11 +223,9 @@ module _ {ws : List ℕ} {p : ℕ → Bool} {us vs qs : List ℕ} {q next : Take
 
   added-words : vs ≡ withRecords ws (moved (add p k) zs)
   added-words =
-      t .table
-      ∙ ap (λ (cs : List Cell). withRecords us (set cs k (placed 2 (nth cs k)))) (shown-cells s)
-      ∙ ap (withRecords us) (moved-add zs p k l)
-      ∙ ap (λ (w : List ℕ). withRecords w (moved (add p k) zs)) (s .table)
-      ∙ with-again ws (moved p zs) (many ws p) (moved (add p k) zs) (length-moved (add p k) zs ∙ sym (length-moved p zs))
+      with-then ws (moved p zs) (s .table) (length-moved p zs) (moved (add p k) zs)
+      (t .table ∙ ap (λ (cs : List Cell). withRecords us (set cs k (placed 2 (nth cs k)))) (shown-cells s) ∙ ap (withRecords us) (moved-add zs p k l))
+      (length-moved (add p k) zs ∙ sym (length-moved p zs))
 
   added-input : (i : ℕ) → has (next .inputs) i ≡ isTakenInput (add p k) zs (inputOf i)
   added-input =
@@ -267,7 +269,10 @@ module _ {ws : List ℕ} {p : ℕ → Bool} {us vs qs : List ℕ} {q next : Take
         long = ap length sifted ∙ length-set ns _ _ ∙ s .long;
         served = λ j m x.
             ap (λ (w : List ℕ). getD w (nth zs j .output .0) 0) sifted
-            ∙ ⊎-elim (λ y. was j m y) (λ (y : j ≡ k). rw y (getD-set-same ns (nth zs k .output .0) (nth zs k .input .0) 0 (rw (s .long) small))) (in-add p k j x);
+            ∙ ⊎-elim
+            (λ y. was j m y)
+            (λ (y : j ≡ k). rw y (getD-set-same ns (nth zs k .output .0) (nth zs k .input .0) 0 (rw (s .long) small)))
+            (in-add p k j x);
       }
 
 -- nothing is picked yet

@@ -42,5 +42,6 @@ module _ {table qs vs : List ℕ} {k : ℕ} (t : Takeable table qs k) {c : Cell}
     queues = rw (e, cellsOf-stored table k (placed 2 (nth (cellsOf table) k)), read) (queues-take (t .queues) k (rw (length-cellsOf table) (t .inside)));
   }
 
-  pub taken-queues : {ns : List ℕ} → ns ≡ headSet qs (c .input .0) (c .output .0) (headOf (cellsOf vs) (c .input .0) (c .output .0)) → Queues All (cellsOf vs) ns
+  pub taken-queues : {ns : List ℕ} → ns ≡ headSet qs (c .input .0) (c .output .0) (headOf (cellsOf vs) (c .input .0) (c .output .0))
+      → Queues All (cellsOf vs) ns
   taken-queues q = rw q (renewed taken-stale)

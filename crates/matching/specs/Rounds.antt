@@ -10,7 +10,7 @@ use native.Mathlib.Omega.{arith}
 use lib.Dec.{eqb, ltb}
 use lib.ListN.{length, set, length-set}
 use borrow.Author.Tests.{eqb-true, eqb-false, eq-eqb, ltb-true, ltb-false}
-use Rattle.laws.specs.Tests.{No, passes, refuted, to-no, both, join, denied, deny, same-test, cond-true, cond-false}
+use Rattle.laws.specs.Tests.{No, passes, refuted, to-no, both, join, denied, deny, same-test}
 use Rattle.laws.specs.Walk.{over-zero}
 use Rattle.laws.specs.Count.{any, any→, →any}
 use Rattle.laws.specs.Order.{lower, lower-below, lower-equal, ranks-on}
@@ -25,22 +25,29 @@ use Rattle.rules.specs.declared.Cell.{Cell}
 use Rattle.rules.specs.Cells.{mostPorts, placed, nth, outputOf, isWaiting, older, before, readingFor, cellsOf}
 use Rattle.rules.specs.Phases.{isOpen, firstOpen}
 use Rattle.words.specs.Words.{length-cellsOf, same-records}
-use Rattle.ideal.specs.Match.{open-found}
-use Rattle.ideal.specs.Phases.{placed-waits}
 use Rattle.ideal.specs.Cells.{waiting→, older-ranks, before-ranks}
+use Rattle.ideal.specs.Match.{open-found}
 use Rattle.queues.specs.Layout.{named, named-name, isFound, headWord, senders, wanted}
 use Rattle.queues.specs.Queues.{waitsFor, waits→, →waits, headBelow, headOf, All, Queues}
 use Rattle.table.specs.Table.{olderAt, cellsOf-stored}
-use Rattle.queues.specs.Heads.{head-below}
+use Rattle.queues.specs.Heads.{head-below, still-waits}
 use Rattle.matching.specs.declared.Taken.{Taken}
 use Rattle.matching.specs.declared.Lowest.{Lowest}
 use Rattle.matching.specs.Ready.{Orderly, Takeable}
-use Rattle.matching.specs.Picking.{waitsAmong, candidate, firstCandidate, Takes, Shows, Picked, picks, picks-more, picks-all, stops, open-waits}
+use Rattle.matching.specs.Picking.{waitsAmong, candidate, firstCandidate, Takes, Shows, Picked}
+use Rattle.matching.specs.Picking.{picks, picks-more, picks-all, stops, open-waits}
 use Rattle.matching.specs.Picking.{finds, cell-same, length-shown, shown-long, shows-add, shows-none}
 
 -- record i stands before record j
 abbrev beforeAt : List ℕ → List Cell → ℕ → ℕ → Bool
 beforeAt r cs i j = before r (nth cs i) (nth cs j)
+
+-- x is the first by age of the records that pass a test; by reading and age, of the candidates
+abbrev Oldest : List Cell → (Cell → Bool) → Found → Type 0
+Oldest cs test x = First (λ k. test (nth cs k)) (olderAt cs) (length cs) x
+
+abbrev FirstCandidate : List ℕ → (ℕ → Bool) → (ℕ → Bool) → List Cell → Found → Type 0
+FirstCandidate r ins outs cs x = First (λ k. candidate ins outs (nth cs k)) (beforeAt r cs) (length cs) x
 
 -- of the waiting cells whose inputs are not in the one set and whose outputs are in the other, the oldest
 unfoldable pub firstAmong : (ℕ → Bool) → (ℕ → Bool) → List Cell → Found
@@ -78,36 +85,36 @@ module _ (ins outs : ℕ → Bool) (c : Cell) where
   →among w n m = join _ _ (join _ _ w (deny _ n)) m
 
 module _ (ins : ℕ → Bool) (o : ℕ) (c : Cell) where
-  pub waitsOn→ : So (waitsOn ins o c) → So (isWaiting c) × No (ins (c .input .0)) × (c .output .0 ≡ o)
+  waitsOn→ : So (waitsOn ins o c) → So (isWaiting c) × No (ins (c .input .0)) × (c .output .0 ≡ o)
   unfolding waitsOn
   waitsOn→ h = let a = among→ ins (λ p. eqb p o) c h in (a .0, a .1, eqb-true (c .output .0) o (a .2))
 
-  pub →waitsOn : So (isWaiting c) → No (ins (c .input .0)) → c .output .0 ≡ o → So (waitsOn ins o c)
+  →waitsOn : So (isWaiting c) → No (ins (c .input .0)) → c .output .0 ≡ o → So (waitsOn ins o c)
   unfolding waitsOn
   →waitsOn w n e = →among ins (λ p. eqb p o) c w n (eq-eqb _ _ e)
 
 module _ (ins outs : ℕ → Bool) (c : Cell) where
-  pub candidate→ : So (candidate ins outs c) → So (isWaiting c) × No (ins (c .input .0)) × No (outs (c .output .0))
+  candidate→ : So (candidate ins outs c) → So (isWaiting c) × No (ins (c .input .0)) × No (outs (c .output .0))
   unfolding candidate
   candidate→ h = let a = among→ ins (λ o. not (outs o)) c h in (a .0, a .1, denied _ (a .2))
 
-  pub →candidate : So (isWaiting c) → No (ins (c .input .0)) → No (outs (c .output .0)) → So (candidate ins outs c)
+  →candidate : So (isWaiting c) → No (ins (c .input .0)) → No (outs (c .output .0)) → So (candidate ins outs c)
   unfolding candidate
   →candidate w n m = →among ins (λ o. not (outs o)) c w n (deny _ m)
 
 -- The head of a pair ----------------------------------------------------------------------------------
 
 module _ (cs : List Cell) (i o : ℕ) where
-  head-first : First (λ k. waitsFor i o (nth cs k)) (olderAt cs) (length cs) (headOf cs i o)
+  head-first : Oldest cs (waitsFor i o) (headOf cs i o)
   unfolding headBelow
   head-first = least-first (olderAt cs) (ranks-on older older-ranks (nth cs)) (λ k. waitsFor i o (nth cs k)) (length cs)
 
   -- there is a head where a cell of the pair waits
-  found-head : (x : Found) → First (λ k. waitsFor i o (nth cs k)) (olderAt cs) (length cs) x → (k : ℕ) → k < length cs → So (waitsFor i o (nth cs k)) → So (isFound x)
+  found-head : (x : Found) → Oldest cs (waitsFor i o) x → (k : ℕ) → k < length cs → So (waitsFor i o (nth cs k)) → So (isFound x)
   found-head (At j) h k l w = refl
   found-head Nothing h k l w = absurd (h k l w)
 
-  head-found : (x : Found) → First (λ k. waitsFor i o (nth cs k)) (olderAt cs) (length cs) x → So (isFound x) → (k : ℕ) × (k < length cs) × So (waitsFor i o (nth cs k))
+  head-found : (x : Found) → Oldest cs (waitsFor i o) x → So (isFound x) → (k : ℕ) × (k < length cs) × So (waitsFor i o (nth cs k))
   head-found (At j) h w = (j, h .0, h .1)
   head-found Nothing h w = absurd (false≢true w)
 
@@ -134,7 +141,9 @@ module _ {cs : List Cell} {qs : List ℕ} (q : Queues All cs qs) where
       let k = any→ (λ k. waitsOn ins o (nth cs k)) (length cs) h in
       let w = waitsOn→ ins o (nth cs (k .0)) (k .2) in
       let i : ℕ = nth cs (k .0) .input .0 in
-      q .heads .wants i o (q .ports .inputs (k .0) (k .1) (waiting→ _ (w .0))) (subst (λ (p : ℕ). p < mostPorts) (w .2) (q .ports .outputs (k .0) (k .1) (waiting→ _ (w .0)))) tt
+      let in-port = q .ports .inputs (k .0) (k .1) (waiting→ _ (w .0)) in
+      let out-port : o < mostPorts = rw (w .2) at (q .ports .outputs (k .0) (k .1) (waiting→ _ (w .0))) in
+      q .heads .wants i o in-port out-port tt
       (found-head cs i o (headOf cs i o) (head-first cs i o) (k .0) (k .1) (→waits i o (nth cs (k .0)) (w .0) refl (w .2)))
 
   -- Whether an output can be served ---------------------------------------------------------------------
@@ -148,22 +157,34 @@ module _ {cs : List Cell} {qs : List ℕ} (q : Queues All cs qs) where
 
     is-servable : left < 2 ^ maskPorts → (left ≡ 0 → ⊥) → So (isServable (has ins) o cs)
     unfolding isServable
-    is-servable small ne = ⊎-elim (λ x. x) (λ x. absurd (ne (none-inside left small (λ i l. to-no (λ h. none x i l h))))) (passes (any (λ k. waitsOn (has ins) o (nth cs k)) (length cs)))
+    is-servable small ne =
+        ⊎-elim
+        (λ x. x)
+        (λ x. absurd (ne (none-inside left small (λ i l. to-no (λ h. none x i l h)))))
+        (passes (any (λ k. waitsOn (has ins) o (nth cs k)) (length cs)))
       where
         none : No (any (λ k. waitsOn (has ins) o (nth cs k)) (length cs)) → (i : ℕ) → i < mostPorts → So (has left i) → ⊥
         none x i l h =
             let b = both (has (senders qs o) i) _ (sym (e .each i) ∙ h) in
             let s = sent i o l m (b .0) in
             let w = waits→ i o (nth cs (s .0)) (s .2) in
-            refuted (→any (λ k. waitsOn (has ins) o (nth cs k)) (length cs) (s .0) (s .1) (→waitsOn (has ins) o (nth cs (s .0)) (w .0) (ap (has ins) (w .1) ∙ denied _ (b .1)) (w .2))) x
+            let here = →waitsOn (has ins) o (nth cs (s .0)) (w .0) (ap (has ins) (w .1) ∙ denied _ (b .1)) (w .2) in
+            refuted (→any (λ k. waitsOn (has ins) o (nth cs k)) (length cs) (s .0) (s .1) here) x
 
     not-servable : left ≡ 0 → No (isServable (has ins) o cs)
     unfolding isServable
-    not-servable z = to-no (λ x. let k = any→ (λ k. waitsOn (has ins) o (nth cs k)) (length cs) x in refuted (left-has (k .0) (k .1) (k .2)) (ap (λ (v : ℕ). has v (nth cs (k .0) .input .0)) z ∙ has-none _))
+    not-servable z =
+        to-no (λ x.
+        let k = any→ (λ k. waitsOn (has ins) o (nth cs k)) (length cs) x in
+        refuted (left-has (k .0) (k .1) (k .2)) (ap (λ (v : ℕ). has v (nth cs (k .0) .input .0)) z ∙ has-none _))
 
     -- the test of the code
     pub servable-test : left < 2 ^ maskPorts → not (eqb left 0) ≡ isServable (has ins) o cs
-    servable-test small = ⊎-elim (λ x. ap not x ∙ sym (not-servable (eqb-true left 0 x))) (λ x. ap not x ∙ sym (is-servable small (eqb-false left 0 x))) (passes (eqb left 0))
+    servable-test small =
+        ⊎-elim
+        (λ x. ap not x ∙ sym (not-servable (eqb-true left 0 x)))
+        (λ x. ap not x ∙ sym (is-servable small (eqb-false left 0 x)))
+        (passes (eqb left 0))
 
 -- Walks over ports -------------------------------------------------------------------------------
 
@@ -175,7 +196,8 @@ ForOutput ins o cs = FirstIn (λ k. waitsOn ins o (nth cs k)) (λ k. nth cs k .i
 abbrev pub AmongOutputs : (ℕ → Bool) → ℕ → List Cell → (ℕ → Bool) → Found → Type 0
 AmongOutputs ins s cs = FirstIn (λ k. waitsAmong ins (has s) (nth cs k)) (λ k. nth cs k .output .0) (olderAt cs) (length cs)
 
-pub walk-below : (test : ℕ → Bool) (port : ℕ → ℕ) (cs : List Cell) {v : ℕ → Bool} {x : Found} → FirstIn test port (olderAt cs) (length cs) v x → Below (length cs) x
+pub walk-below : (test : ℕ → Bool) (port : ℕ → ℕ) (cs : List Cell) {v : ℕ → Bool} {x : Found} → FirstIn test port (olderAt cs) (length cs) v x
+    → Below (length cs) x
 walk-below test port cs {v} {x} f = first-below (λ k. test k && v (port k)) (olderAt cs) (length cs) x (f .first)
 
 -- every port of what passes the test was visited
@@ -189,15 +211,19 @@ walk-least test port cs {v} {x} all f =
 
 module _ (ins : ℕ → Bool) (cs : List Cell) where
   -- an input that is not taken is visited: the head of its pair
-  pub visit-input : (o : ℕ) {v : ℕ → Bool} {x : Found} (i : ℕ) → No (ins i) → ForOutput ins o cs v x → ForOutput ins o cs (also v i) (firstFound (olderAt cs) x (headOf cs i o))
+  pub visit-input : (o : ℕ) {v : ℕ → Bool} {x : Found} (i : ℕ) → No (ins i) → ForOutput ins o cs v x
+      → ForOutput ins o cs (also v i) (firstFound (olderAt cs) x (headOf cs i o))
   visit-input o i n f =
       first-visit (ranks-on older older-ranks (nth cs)) f i (λ k. waitsFor i o (nth cs k))
       (λ k l. same-test _ _
       (λ h. let w = waits→ i o (nth cs k) h in join _ _ (→waitsOn ins o (nth cs k) (w .0) (ap ins (w .1) ∙ n) (w .2)) (eq-eqb _ _ (w .1)))
-      (λ h. let b = both (waitsOn ins o (nth cs k)) _ h in let w = waitsOn→ ins o (nth cs k) (b .0) in →waits i o (nth cs k) (w .0) (eqb-true _ _ (b .1)) (w .2)))
+      (λ h.
+      let b = both (waitsOn ins o (nth cs k)) _ h in
+      let w = waitsOn→ ins o (nth cs k) (b .0) in
+      →waits i o (nth cs k) (w .0) (eqb-true _ _ (b .1)) (w .2)))
       (headOf cs i o) (head-first cs i o)
 
-  first-for : (o : ℕ) → First (λ k. waitsOn ins o (nth cs k)) (olderAt cs) (length cs) (firstFor ins o cs)
+  first-for : (o : ℕ) → Oldest cs (waitsOn ins o) (firstFor ins o cs)
   unfolding firstFor
   first-for o = least-first (olderAt cs) (ranks-on older older-ranks (nth cs)) (λ k. waitsOn ins o (nth cs k)) (length cs)
 
@@ -208,7 +234,10 @@ module _ (ins : ℕ → Bool) (cs : List Cell) where
       first-visit (ranks-on older older-ranks (nth cs)) f o (λ k. waitsOn ins o (nth cs k))
       (λ k l. same-test _ _
       (λ g. let w = waitsOn→ ins o (nth cs k) g in join _ _ (→among ins (has s) (nth cs k) (w .0) (w .1) (ap (has s) (w .2) ∙ h)) (eq-eqb _ _ (w .2)))
-      (λ g. let b = both (waitsAmong ins (has s) (nth cs k)) _ g in let w = among→ ins (has s) (nth cs k) (b .0) in →waitsOn ins o (nth cs k) (w .0) (w .1) (eqb-true _ _ (b .1))))
+      (λ g.
+      let b = both (waitsAmong ins (has s) (nth cs k)) _ g in
+      let w = among→ ins (has s) (nth cs k) (b .0) in
+      →waitsOn ins o (nth cs k) (w .0) (w .1) (eqb-true _ _ (b .1))))
       (firstFor ins o cs) (first-for o)
 
   pub all-outputs : (s : ℕ) {x : Found} → AmongOutputs ins s cs (has s) x → x ≡ firstAmong ins (has s) cs
@@ -263,7 +292,8 @@ module _ {r : List ℕ} {ins : ℕ → Bool} {cs : List Cell} where
             record { lowest = lowest-above (h .lowest) o c (omega (arith, e, ltb-true (l .reading) x k)) (g .0) (g .1); some = h .some }
         go false false false i j k =
             let a = added {r = withPort (l .outputs) o} refl in
-            record { lowest = rw (added-also a) (lowest-tie (h .lowest) o c (omega (arith, e, ltb-false x (l .reading) j, ltb-false (l .reading) x k))); some = inr (o, a .inside) }
+            let tie : readingFor r (outputOf o) ≡ l .reading = omega (arith, e, ltb-false x (l .reading) j, ltb-false (l .reading) x k) in
+            record { lowest = rw (added-also a) (lowest-tie (h .lowest) o c tie); some = inr (o, a .inside) }
 
 -- of the outputs that are not taken and can be served, those of the set s have the lowest reading
 pub record Lows (r : List ℕ) (q : Taken) (cs : List Cell) (s : ℕ) : Type 0 where
@@ -286,7 +316,8 @@ all-wanted {r} {q} {cs} {qs} {left} {l} w e h = record {
     there o n c = e .each o ∙ join _ _ (wants w o (has (q .inputs)) c) n
 
 -- with the same reading the older cell stands before, with a lower one any cell
-ahead : (r : List ℕ) (cell : ℕ → Cell) (k j : ℕ) → readingFor r (cell k .output) ≡ readingFor r (cell j .output) → Ahead (λ a b. older (cell a) (cell b)) k j → Ahead (λ a b. before r (cell a) (cell b)) k j
+ahead : (r : List ℕ) (cell : ℕ → Cell) (k j : ℕ) → readingFor r (cell k .output) ≡ readingFor r (cell j .output)
+    → Ahead (λ a b. older (cell a) (cell b)) k j → Ahead (λ a b. before r (cell a) (cell b)) k j
 unfolding before
 ahead r cell k j e (inl h) = inl (lower-equal _ _ _ e ∙ h)
 ahead r cell k j e (inr h) = inr (lower-equal _ _ _ (sym e) ∙ h .0, h .1)
@@ -303,7 +334,7 @@ pub record Kept (r : List ℕ) (q : Taken) (cs : List Cell) (s : ℕ) : Type 0 w
   pub beyond : (o p : ℕ) → So (has s o) → No (has (q .outputs) p) → So (isServable (has (q .inputs)) p cs) → No (has s p)
       → readingFor r (outputOf o) < readingFor r (outputOf p)
 
-pub kept-none : (r : List ℕ) (q : Taken) (cs : List Cell) → Kept r q cs 0
+kept-none : (r : List ℕ) (q : Taken) (cs : List Cell) → Kept r q cs 0
 kept-none r q cs = record { alike = λ o p x. absurd (refuted x (has-none o)); beyond = λ o p x. absurd (refuted x (has-none o)) }
 
 pub kept-lows : {r : List ℕ} {q : Taken} {cs : List Cell} {s : ℕ} → Lows r q cs s → Kept r q cs s
@@ -324,9 +355,8 @@ module _ {us vs qs : List ℕ} {q next : Taken} {ns ms : List ℕ} {k : ℕ} (t 
   cells : cellsOf vs ≡ set (cellsOf us) k (placed 2 (nth (cellsOf us) k))
   cells = ap cellsOf (t .table) ∙ cellsOf-stored us k (placed 2 (nth (cellsOf us) k))
 
-  -- a cell that still waits is another one
   still : (j : ℕ) → So (isWaiting (nth (cellsOf vs) j)) → nth (cellsOf vs) j ≡ nth (cellsOf us) j
-  still j w = rw cells (placed-waits (cellsOf us) k l j (rw cells at (waiting→ _ w)))
+  still j w = rw cells (still-waits (cellsOf us) k l j (rw cells at (waiting→ _ w)))
 
   still-servable : (o : ℕ) → So (isServable (has (next .inputs)) o (cellsOf vs)) → So (isServable (has (q .inputs)) o (cellsOf us))
   unfolding isServable
@@ -338,7 +368,7 @@ module _ {us vs qs : List ℕ} {q next : Taken} {ns ms : List ℕ} {k : ℕ} (t 
       (omega (arith, j .1, ap length cells, length-set (cellsOf us) k (placed 2 (nth (cellsOf us) k))))
       (rw (← e) (→waitsOn (has (q .inputs)) o (nth (cellsOf vs) (j .0)) (w .0) (to-no (λ x. refuted (added-kept (t .inputs) _ x) (w .1))) (w .2)))
 
-  pub kept-take : {r : List ℕ} {s : ℕ} → Kept r q (cellsOf us) s → Kept r next (cellsOf vs) s
+  kept-take : {r : List ℕ} {s : ℕ} → Kept r q (cellsOf us) s → Kept r next (cellsOf vs) s
   kept-take {r} {s} h = record {
     alike = h .alike;
     beyond = λ o p x n y z. h .beyond o p x (to-no (λ v. refuted (added-kept (t .outputs) p v) n)) (still-servable p y) z;
@@ -346,21 +376,26 @@ module _ {us vs qs : List ℕ} {q next : Taken} {ns ms : List ℕ} {k : ℕ} (t 
 
 -- What the round finds ---------------------------------------------------------------------------
 
-first-among : (ins : ℕ → Bool) (s : ℕ) (cs : List Cell) → First (λ k. waitsAmong ins (has s) (nth cs k)) (olderAt cs) (length cs) (firstAmong ins (has s) cs)
+first-among : (ins : ℕ → Bool) (s : ℕ) (cs : List Cell) → Oldest cs (waitsAmong ins (has s)) (firstAmong ins (has s) cs)
 unfolding firstAmong
 first-among ins s cs = least-first (olderAt cs) (ranks-on older older-ranks (nth cs)) (λ k. waitsAmong ins (has s) (nth cs k)) (length cs)
 
-is-first : (r : List ℕ) (ins outs : ℕ → Bool) (cs : List Cell) (found : Found) → First (λ k. candidate ins outs (nth cs k)) (beforeAt r cs) (length cs) found → found ≡ firstCandidate r ins outs cs
+is-first : (r : List ℕ) (ins outs : ℕ → Bool) (cs : List Cell) (x : Found) → FirstCandidate r ins outs cs x → x ≡ firstCandidate r ins outs cs
 unfolding firstCandidate
-is-first r ins outs cs found h = first-least (beforeAt r cs) (ranks-on (before r) (before-ranks r) (nth cs)) (λ k. candidate ins outs (nth cs k)) (length cs) found h
+is-first r ins outs cs x h =
+    first-least (beforeAt r cs) (ranks-on (before r) (before-ranks r) (nth cs)) (λ k. candidate ins outs (nth cs k)) (length cs) x h
 
 -- the output of a candidate can be served
 servable : (ins outs : ℕ → Bool) (cs : List Cell) (k : ℕ) → k < length cs → So (candidate ins outs (nth cs k)) → So (isServable ins (nth cs k .output .0) cs)
 unfolding isServable
-servable ins outs cs k l x = let v = candidate→ ins outs (nth cs k) x in →any (λ j. waitsOn ins (nth cs k .output .0) (nth cs j)) (length cs) k l (→waitsOn ins (nth cs k .output .0) (nth cs k) (v .0) (v .1) refl)
+servable ins outs cs k l x =
+    let v = candidate→ ins outs (nth cs k) x in
+    let o : ℕ = nth cs k .output .0 in
+    →any (λ j. waitsOn ins o (nth cs j)) (length cs) k l (→waitsOn ins o (nth cs k) (v .0) (v .1) refl)
 
 -- and one that can be served has a cell
-served : (ins : ℕ → Bool) (cs : List Cell) (s o : ℕ) → So (has s o) → So (isServable ins o cs) → (k : ℕ) × (k < length cs) × So (waitsAmong ins (has s) (nth cs k))
+served : (ins : ℕ → Bool) (cs : List Cell) (s o : ℕ) → So (has s o) → So (isServable ins o cs)
+    → (k : ℕ) × (k < length cs) × So (waitsAmong ins (has s) (nth cs k))
 unfolding isServable
 served ins cs s o y x =
     let k = any→ (λ j. waitsOn ins o (nth cs j)) (length cs) x in
@@ -375,7 +410,7 @@ module _ {r : List ℕ} {q : Taken} {cs : List Cell} {s : ℕ} (h : Kept r q cs 
   abbrev outs : ℕ → Bool
   outs = has (q .outputs)
 
-  oldest : (k : ℕ) → First (λ k. waitsAmong ins (has s) (nth cs k)) (olderAt cs) (length cs) (At k) → First (λ k. candidate ins outs (nth cs k)) (beforeAt r cs) (length cs) (At k)
+  oldest : (k : ℕ) → Oldest cs (waitsAmong ins (has s)) (At k) → FirstCandidate r ins outs cs (At k)
   oldest k t =
       let a = among→ ins (has s) (nth cs k) (t .1) in (
         t .0,
@@ -384,27 +419,31 @@ module _ {r : List ℕ} {q : Taken} {cs : List Cell} {s : ℕ} (h : Kept r q cs 
             let v = candidate→ ins outs (nth cs j) x in
             ⊎-elim
             (λ y. ahead r (nth cs) k j (h .alike _ _ (a .2) y) (t .2 j l (→among ins (has s) (nth cs j) (v .0) (v .1) y)))
-            (λ y. inl (before-lower r (nth cs k) (nth cs j) (h .beyond (nth cs k .output .0) (nth cs j .output .0) (a .2) (v .2) (servable ins outs cs j l x) y)))
+            (λ y. inl (before-lower r (nth cs k) (nth cs j) (h .beyond _ (nth cs j .output .0) (a .2) (v .2) (servable ins outs cs j l x) y)))
             (passes (has s (nth cs j .output .0))),
       )
 
   pub kept-first : {k : ℕ} → firstAmong (has (q .inputs)) (has s) cs ≡ At k → At k ≡ firstCandidate r (has (q .inputs)) (has (q .outputs)) cs
   kept-first {k} e =
-      is-first r ins outs cs (At k)
-      (oldest k (subst (λ (x : Found). First (λ k. waitsAmong ins (has s) (nth cs k)) (olderAt cs) (length cs) x) e (first-among ins s cs)))
+      is-first r ins outs cs (At k) (oldest k (subst (λ (x : Found). Oldest cs (waitsAmong ins (has s)) x) e (first-among ins s cs)))
 
 -- among the outputs with the lowest reading there is a cell where there is a candidate
 pub lows-first : {r : List ℕ} {q : Taken} {cs : List Cell} {s : ℕ} → Lows r q cs s
     → firstAmong (has (q .inputs)) (has s) cs ≡ firstCandidate r (has (q .inputs)) (has (q .outputs)) cs
-lows-first {r} {q} {cs} {s} w = is-first r (has (q .inputs)) (has (q .outputs)) cs _ (go (firstAmong (has (q .inputs)) (has s) cs) (first-among (has (q .inputs)) s cs))
+lows-first {r} {q} {cs} {s} w = is-first r ins outs cs _ (go (firstAmong ins (has s) cs) (first-among ins s cs))
   where
-    go : (found : Found) → First (λ k. waitsAmong (has (q .inputs)) (has s) (nth cs k)) (olderAt cs) (length cs) found
-        → First (λ k. candidate (has (q .inputs)) (has (q .outputs)) (nth cs k)) (beforeAt r cs) (length cs) found
+    ins : ℕ → Bool
+    ins = has (q .inputs)
+
+    outs : ℕ → Bool
+    outs = has (q .outputs)
+
+    go : (found : Found) → Oldest cs (waitsAmong ins (has s)) found → FirstCandidate r ins outs cs found
     go (At k) t = oldest (kept-lows w) (λ o x. denied _ (w .all .inside o x .0)) k t
     go Nothing t = λ j l x.
-        let v = candidate→ (has (q .inputs)) (has (q .outputs)) (nth cs j) x in
-        let o = w .all .some (nth cs j .output .0) (deny _ (v .2)) (servable (has (q .inputs)) (has (q .outputs)) cs j l x) in
-        let k = served (has (q .inputs)) cs s (o .0) (o .1) (w .all .inside (o .0) (o .1) .1) in
+        let v = candidate→ ins outs (nth cs j) x in
+        let o = w .all .some (nth cs j .output .0) (deny _ (v .2)) (servable ins outs cs j l x) in
+        let k = served ins cs s (o .0) (o .1) (w .all .inside (o .0) (o .1) .1) in
         t (k .0) (k .1) (k .2)
 
 -- Rounds of picking ------------------------------------------------------------------------------
@@ -463,7 +502,9 @@ module _ {n : ℕ} {r ws us qs : List ℕ} {q : Taken} {ns : List ℕ} {lows i :
       rounds-more l h t =
           record {
             rounds = omega arith;
-            shows = rw (picks-more r (cellsOf ws) i, opened) (shows-add (a .shows) k inside is-open t (omega (arith, o .small, o .inside .outputs k inside waits)));
+            shows =
+                rw (picks-more r (cellsOf ws) i, opened)
+                (shows-add (a .shows) k inside is-open t (omega (arith, o .small, o .inside .outputs k inside waits)));
             queues = t .queues;
             kept = kept-take t (omega (arith, inside, length-shown (a .shows))) h;
           }

@@ -20,8 +20,8 @@ use Rattle.ports.specs.Ports.{maskPorts, has}
 use Rattle.rules.specs.declared.Cell.{Cell}
 use Rattle.rules.specs.Cells.{mostPorts, nth, outputOf, cellsOf, sameOutput}
 use Rattle.rules.specs.Phases.{matchOf, isTakenOutput, moves, phase, servedWord, matchWords}
-use Rattle.words.specs.Words.{length-cellsOf, withRecords, length-with}
-use Rattle.ideal.specs.Match.{taken→, match-waits}
+use Rattle.words.specs.Words.{withRecords, with-long}
+use Rattle.ideal.specs.Match.{match-waits, taken→}
 use Rattle.ideal.specs.Phases.{length-moved}
 use Rattle.queues.specs.Queues.{All, Queues}
 use Rattle.matching.specs.declared.Taken.{Taken}
@@ -39,7 +39,8 @@ pub record Writable (taken : ℕ) (served : List ℕ) (n : ℕ) : Type 0 where
   pub below : (o : ℕ) → So (has taken o) → o < n
   pub inputs : (o : ℕ) → So (has taken o) → getD served o 0 < mostPorts
 
-module _ {n : ℕ} {ws : List ℕ} (order : Orderly n ws) (r : List ℕ) {us : List ℕ} {q : Taken} {ns : List ℕ} (s : Shows ws (matchOf n r (cellsOf ws)) us q ns) where
+module _ {n : ℕ} {ws : List ℕ} (order : Orderly n ws) (r : List ℕ) {us : List ℕ} {q : Taken} {ns : List ℕ}
+    (s : Shows ws (matchOf n r (cellsOf ws)) us q ns) where
   abbrev cs : List Cell
   cs = cellsOf ws
 
@@ -53,7 +54,9 @@ module _ {n : ℕ} {ws : List ℕ} (order : Orderly n ws) (r : List ℕ) {us : L
   shows-writable =
       record {
         below = λ o x. let d = serves o x in rw (← d .3) (order .inside .outputs (d .0) (d .1) (d .4));
-        inputs = λ o x. let d = serves o x in rw (← d .3, s .served (d .0) (d .1) (d .2)) (omega (arith, order .small, order .inside .inputs (d .0) (d .1) (d .4)));
+        inputs = λ o x.
+            let d = serves o x in
+            rw (← d .3, s .served (d .0) (d .1) (d .2)) (omega (arith, order .small, order .inside .inputs (d .0) (d .1) (d .4)));
       }
 
   -- the record that an output's word is of
@@ -83,7 +86,8 @@ module _ {n : ℕ} {ws : List ℕ} (order : Orderly n ws) (r : List ℕ) {us : L
   pub shows-moves : count (has (q .outputs)) maskPorts ≡ moves n (matchOf n r (cellsOf ws)) (cellsOf ws)
   unfolding moves
   shows-moves =
-      count-above (has (q .outputs)) n maskPorts (order .small) (λ o a b x. let d = serves o x in omega (arith, d .3, order .inside .outputs (d .0) (d .1) (d .4)))
+      count-above (has (q .outputs)) n maskPorts (order .small)
+      (λ o a b x. let d = serves o x in omega (arith, d .3, order .inside .outputs (d .0) (d .1) (d .4)))
       ∙ count-same (has (q .outputs)) (λ o. isTakenOutput (matchOf n r cs) cs (outputOf o)) n (λ o l x. sym (s .outputs o) ∙ x) (λ o l x. s .outputs o ∙ x)
 
 -- one phase: the table, its queues, the words and the number of moves
@@ -96,4 +100,4 @@ pub record Transferred (n : ℕ) (r table table′ qs ws : List ℕ) (q : ℕ) :
 pub transferred-long : {n : ℕ} {r table table′ qs ws : List ℕ} {q : ℕ} → Transferred n r table table′ qs ws q → length table′ ≡ length table
 unfolding phase
 transferred-long {n} {r} {table} t =
-    ap length (t .words) ∙ length-with table (phase n r (cellsOf table)) (length-moved (matchOf n r (cellsOf table)) (cellsOf table) ∙ length-cellsOf table)
+    with-long table (phase n r (cellsOf table)) (t .words) (length-moved (matchOf n r (cellsOf table)) (cellsOf table))

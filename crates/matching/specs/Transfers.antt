@@ -16,11 +16,11 @@ use Rattle.laws.specs.Count.{count-hit}
 use Rattle.laws.specs.Least.{lowest, lowest-nothing}
 use Rattle.laws.specs.Lists.{blocks, blocks-zero, blocks-more, length-blocks, length-tabulate, getD-tabulate}
 use Rattle.rules.specs.declared.Cell.{Cell}
-use Rattle.rules.specs.Cells.{free, nth, outputOf, sameOutput, records, cellsOf}
+use Rattle.rules.specs.Cells.{free, nth, outputOf, sameOutput, cellsOf}
 use Rattle.rules.specs.Phases.{matchOf, moves, moved, phase, phases, matchWords, servedWord, isTakenOutput}
 use Rattle.rules.specs.Phases.{matches as matchesOf}
-use Rattle.ideal.specs.Match.{→taken, match-waits}
-use Rattle.words.specs.Words.{length-cellsOf, same-records, withRecords, length-with, cellsOf-with, with-again, with-own}
+use Rattle.ideal.specs.Match.{match-waits, →taken}
+use Rattle.words.specs.Words.{same-records, withRecords, with-long, with-cells, with-then, with-own}
 use Rattle.ideal.specs.InPorts.{InPorts, in-ports-phases}
 use Rattle.ideal.specs.Phases.{length-moved, moved-no, phases-zero, length-phases}
 use Rattle.queues.specs.Queues.{All, Queues}
@@ -44,18 +44,12 @@ unfolding phases
 phase-more n r cs j = over-more _ _ j
 
 -- the table after j phases: its records, and that it is as long
-many : (n : ℕ) (r ws : List ℕ) (j : ℕ) → length (phases n r (cellsOf ws) j) ≡ records ws
-many n r ws j = length-phases n r (cellsOf ws) j ∙ length-cellsOf ws
-
-cells-then : (n : ℕ) (r ws : List ℕ) (j : ℕ) → cellsOf (withRecords ws (phases n r (cellsOf ws) j)) ≡ phases n r (cellsOf ws) j
-cells-then n r ws j = cellsOf-with ws (phases n r (cellsOf ws) j) (many n r ws j)
-
 module _ (n : ℕ) (r ws us : List ℕ) (j : ℕ) (e : us ≡ withRecords ws (phases n r (cellsOf ws) j)) where
   cells-after : cellsOf us ≡ phases n r (cellsOf ws) j
-  cells-after = ap cellsOf e ∙ cells-then n r ws j
+  cells-after = with-cells ws (phases n r (cellsOf ws) j) e (length-phases n r (cellsOf ws) j)
 
   length-after : length us ≡ length ws
-  length-after = ap length e ∙ length-with ws (phases n r (cellsOf ws) j) (many n r ws j)
+  length-after = with-long ws (phases n r (cellsOf ws) j) e (length-phases n r (cellsOf ws) j)
 
   orderly-after : Orderly n ws → Orderly n us
   orderly-after o = record {
@@ -72,11 +66,10 @@ row-is n r cs us j e = ap (λ (u : List Cell). matchWords n (matchOf n r u) u) e
 words-more : (n : ℕ) (r ws us vs : List ℕ) (j : ℕ) → us ≡ withRecords ws (phases n r (cellsOf ws) j) → vs ≡ withRecords us (phase n r (cellsOf us))
     → vs ≡ withRecords ws (phases n r (cellsOf ws) (j + 1))
 words-more n r ws us vs j e h =
-    let then : List Cell = phases n r (cellsOf ws) j in
     let next : List Cell = phases n r (cellsOf ws) (j + 1) in
     let is-next : phase n r (cellsOf us) ≡ next = ap (phase n r) (cells-after n r ws us j e) ∙ sym (phase-more n r (cellsOf ws) j) in
-    h ∙ ap (withRecords us) is-next ∙ ap (λ (w : List ℕ). withRecords w next) e
-    ∙ with-again ws then (many n r ws j) next (length-phases n r (cellsOf ws) (j + 1) ∙ sym (length-phases n r (cellsOf ws) j))
+    with-then ws (phases n r (cellsOf ws) j) e (length-phases n r (cellsOf ws) j) next (h ∙ ap (withRecords us) is-next)
+    (length-phases n r (cellsOf ws) (j + 1) ∙ sym (length-phases n r (cellsOf ws) j))
 
 -- Quiet phases ---------------------------------------------------------------------------------------
 
@@ -87,22 +80,29 @@ module _ {n : ℕ} {cs : List Cell} (f : InPorts n cs) (r : List ℕ) where
   quiet-none h k =
       to-no (λ x.
       let w = match-waits n r cs k x in
-      omega (arith, h, count-hit (λ o. isTakenOutput (matchOf n r cs) cs (outputOf o)) n (nth cs k .output .0) (f .outputs k (w .0) (w .1)) (→taken cs (matchOf n r cs) (nth cs k .output) k (w .0) x refl)))
+      let o : ℕ = nth cs k .output .0 in
+      let taken = →taken cs (matchOf n r cs) (nth cs k .output) k (w .0) x refl in
+      omega (arith, h, count-hit (λ o. isTakenOutput (matchOf n r cs) cs (outputOf o)) n o (f .outputs k (w .0) (w .1)) taken))
 
   -- so the table stays
   quiet-stays : moves n (matchOf n r cs) cs ≡ 0 → phase n r cs ≡ cs
   unfolding phase
-  quiet-stays h = ext-getD free (moved (matchOf n r cs) cs) cs (length-moved _ cs) (λ k l. moved-no (matchOf n r cs) cs k (omega (arith, length-moved (matchOf n r cs) cs)) (quiet-none h k))
+  quiet-stays h =
+      ext-getD free (moved (matchOf n r cs) cs) cs (length-moved _ cs)
+      (λ k l. moved-no (matchOf n r cs) cs k (omega (arith, length-moved (matchOf n r cs) cs)) (quiet-none h k))
 
   quiet-word : moves n (matchOf n r cs) cs ≡ 0 → matchWords n (matchOf n r cs) cs ≡ replicate n 0
   unfolding matchWords
   quiet-word h =
       ext-getD 0 (matchWords n (matchOf n r cs) cs) (replicate n 0) (length-tabulate _ n ∙ sym (length-replicate {A = ℕ} n 0))
       (λ o l.
-      let m : o < n = rw (length-tabulate (λ o. servedWord cs (lowest (λ k. matchOf n r cs k && sameOutput (nth cs k .output) (outputOf o)) (length cs))) n) at l in
+      let m : o < n = rw (length-tabulate (λ o. servedWord cs (lowest (chosen o) (length cs))) n) at l in
       getD-tabulate _ n 0 o m
-      ∙ ap (servedWord cs) (lowest-nothing (λ k. matchOf n r cs k && sameOutput (nth cs k .output) (outputOf o)) (length cs) (λ k i. fails-left (matchOf n r cs k) _ (quiet-none h k)))
+      ∙ ap (servedWord cs) (lowest-nothing (chosen o) (length cs) (λ k i. fails-left (matchOf n r cs k) _ (quiet-none h k)))
       ∙ sym (getD-replicate n o 0 0 m))
+    where
+      chosen : ℕ → ℕ → Bool
+      chosen o k = matchOf n r cs k && sameOutput (nth cs k .output) (outputOf o)
 
 module _ {n : ℕ} {cs : List Cell} (f : InPorts n cs) (r : List ℕ) (j : ℕ) (h : moves n (matchOf n r (phases n r cs j)) (phases n r cs j) ≡ 0) where
   later : (d : ℕ) → phases n r cs (j + d) ≡ phases n r cs j
@@ -119,7 +119,9 @@ module _ {n : ℕ} {cs : List Cell} (f : InPorts n cs) (r : List ℕ) (j : ℕ) 
   quiet-row d = ap (λ (u : List Cell). matchWords n (matchOf n r u) u) (later d) ∙ quiet-word (in-ports-phases r f j) r h
 
   zeros-on : (d : ℕ) → blocks (j + 1 + d) (rowOf n r cs) ≡ blocks (j + 1) (rowOf n r cs) ++ replicate (d * n) 0
-  zeros-on zero = let z : 0 * n ≡ 0 = omega arith in rw z (ap (λ (i : ℕ). blocks i (rowOf n r cs)) (add-zero (j + 1)) ∙ sym (append-nil (blocks (j + 1) (rowOf n r cs))))
+  zeros-on zero =
+      let z : 0 * n ≡ 0 = omega arith in
+      rw z (ap (λ (i : ℕ). blocks i (rowOf n r cs)) (add-zero (j + 1)) ∙ sym (append-nil (blocks (j + 1) (rowOf n r cs))))
   zeros-on (suc d) =
       let e : j + 1 + suc d ≡ j + 1 + d + 1 = omega arith in
       let q : j + 1 + d ≡ j + suc d = omega arith in
@@ -151,15 +153,19 @@ module _ {n : ℕ} {cs : List Cell} (f : InPorts n cs) (r : List ℕ) (j : ℕ) 
 -- Row by row -------------------------------------------------------------------------------------------
 
 -- the first j rows, then row j in the place of what stood there
-rows-next : (n : ℕ) (r : List ℕ) (cs : List Cell) (j at : ℕ) (ms ys post : List ℕ) → at ≡ j * n → take (j * n) ms ≡ blocks j (rowOf n r cs) → ys ≡ rowOf n r cs j
+rows-next : (n : ℕ) (r : List ℕ) (cs : List Cell) (j at : ℕ) (ms ys post : List ℕ) → at ≡ j * n → take (j * n) ms ≡ blocks j (rowOf n r cs)
+    → ys ≡ rowOf n r cs j
     → take ((j + 1) * n) (take at ms ++ (ys ++ post)) ≡ blocks (j + 1) (rowOf n r cs)
 rows-next n r cs j at ms ys post a e y =
-    ap (take ((j + 1) * n)) (ap₂ (λ (u v : List ℕ). u ++ (v ++ post)) (ap (λ (i : ℕ). take i ms) a ∙ e) y ∙ sym (append-assoc (blocks j (rowOf n r cs)) (rowOf n r cs j) post))
+    ap (take ((j + 1) * n))
+    (ap₂ (λ (u v : List ℕ). u ++ (v ++ post)) (ap (λ (i : ℕ). take i ms) a ∙ e) y ∙ sym (append-assoc (blocks j (rowOf n r cs)) (rowOf n r cs j) post))
     ∙ take-at (blocks j (rowOf n r cs) ++ rowOf n r cs j) post ((j + 1) * n) long
     ∙ sym (blocks-more (rowOf n r cs) j)
   where
     long : length (blocks j (rowOf n r cs) ++ rowOf n r cs j) ≡ (j + 1) * n
-    long = length-append (blocks j (rowOf n r cs)) (rowOf n r cs j) ∙ omega (arith, length-blocks (rowOf n r cs) n (length-row n r cs) j, length-row n r cs j, ap (λ (i : ℕ). i * n) (add-one j), suc-mul j n)
+    long =
+        length-append (blocks j (rowOf n r cs)) (rowOf n r cs j)
+        ∙ omega (arith, length-blocks (rowOf n r cs) n (length-row n r cs) j, length-row n r cs j, ap (λ (i : ℕ). i * n) (add-one j), suc-mul j n)
 
 -- Phase by phase -------------------------------------------------------------------------------------
 
@@ -204,7 +210,8 @@ module _ {n s : ℕ} {r ws us qs ms : List ℕ} {j at : ℕ} (a : AfterPhases n 
   )
 
   -- one more phase, whose row ys stands in the place of what stood there
-  module _ {us′ qs′ ys : List ℕ} {q : ℕ} (l : j < s) (t : Transferred n r us us′ qs′ ys q) (post : List ℕ) (same : length (take at ms ++ (ys ++ post)) ≡ length ms) where
+  module _ {us′ qs′ ys : List ℕ} {q : ℕ} (l : j < s) (t : Transferred n r us us′ qs′ ys q) (post : List ℕ)
+      (same : length (take at ms ++ (ys ++ post)) ≡ length ms) where
     pub phases-more : AfterPhases n s r ws us′ qs′ (take at ms ++ (ys ++ post)) (j + 1) (at + n)
     phases-more = record {
       few = omega arith;
@@ -212,7 +219,9 @@ module _ {n s : ℕ} {r ws us qs ms : List ℕ} {j at : ℕ} (a : AfterPhases n 
       words = words-more n r ws us us′ j (a .words) (t .words);
       queues = t .queues;
       long = same ∙ a .long;
-      rows = rows-next n r (cellsOf ws) j at ms ys post (a .place) (a .rows) (t .matched ∙ row-is n r (cellsOf ws) (cellsOf us) j (cells-after n r ws us j (a .words)));
+      rows =
+          rows-next n r (cellsOf ws) j at ms ys post (a .place) (a .rows)
+          (t .matched ∙ row-is n r (cellsOf ws) (cellsOf us) j (cells-after n r ws us j (a .words)));
     }
 
     -- one that moves nothing: the table stays from then on, and the words behind its row become 0

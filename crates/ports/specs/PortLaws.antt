@@ -1,10 +1,11 @@
 -- The laws of sets of ports: what shifts, masks and sums of digits compute, how many ports are in a set, and that a set is what its members say.
 -- Assumes nothing.
 use mathlib.Core.Path.{_≡_, refl, sym, ap, _∙_, subst, fun-ext}
-use mathlib.Core.Bool.{Bool, So, true, false, not, _&&_}
-use mathlib.Core.Logic.{_⊎_, inl, inr, ⊎-elim}
+use mathlib.Core.Bool.{Bool, So, false, not, _&&_}
+use mathlib.Core.Logic.{_⊎_, ⊎-elim}
 use Prim.Native.Nat.{ℕ, zero, suc, _+_, _-_, _*_, _/_, _%_, _^_, _≤_, _<_, min, max, suc-le-suc}
-use native.Mathlib.Nat.{div-one, mod-lt, zero-lt-suc, pow-suc, mul-div-cancel, mul-mod-left, max-zero, max-eq-right, max-le, min-le-left, le-of-suc-le-suc, not-suc-le-zero, mod-eq-of-lt, one-mul}
+use native.Mathlib.Nat.{div-one, mod-lt, zero-lt-suc, pow-suc, mul-div-cancel, mul-mod-left, mod-eq-of-lt, one-mul}
+use native.Mathlib.Nat.{max-zero, max-eq-right, max-le, min-le-left, le-of-suc-le-suc, not-suc-le-zero}
 use native.Mathlib.Numerals.{one-add}
 use native.Mathlib.Omega.{arith}
 use borrow.Author.Tests.{eqb-true, eqb-false, lt-ltb}
@@ -14,7 +15,7 @@ use lib.Pow.{shr-shr, pow-lt}
 use lib.Bits.{bitOr, or-step, or-shr, or-zero-r, bitAnd, and-mask, and-step, and-shr, bitXor, differ, xor-step, xor-shr}
 use lib.Count.{ones, ones-step, trailingZeros, under}
 use Rattle.laws.specs.Tests.{No, passes, refuted, to-no, both, denied}
-use Rattle.laws.specs.Count.{any, any→, →any, bit, count, count-zero, count-suc}
+use Rattle.laws.specs.Count.{bit, count, count-zero, count-suc}
 use Rattle.laws.specs.Least.{Least, lowest, lowest-hit, lowest-is, lowest-nothing, least-at}
 use Rattle.laws.specs.SetWalk.{nobody, also, also-is, Walked, walk-more, walk-all}
 use Rattle.laws.specs.declared.Found.the-variants.{At}
@@ -287,37 +288,19 @@ has-none q = of-zero 0 q (go q)
 digits-known : (k a b : ℕ) → a < 2 ^ k → b < 2 ^ k → ((q : ℕ) → q < k → digit a q ≡ digit b q) → a ≡ b
 digits-known zero a b ha hb h = lt-one ha ∙ sym (lt-one hb)
 digits-known (suc k) a b ha hb h =
-    let high : a / 2 ≡ b / 2 = digits-known k (a / 2) (b / 2) (half-below a k ha) (half-below b k hb) (λ q l. sym (digit-suc a q) ∙ h (suc q) (suc-le-suc l) ∙ digit-suc b q) in
+    let high : a / 2 ≡ b / 2 =
+    digits-known k (a / 2) (b / 2) (half-below a k ha) (half-below b k hb) (λ q l. sym (digit-suc a q) ∙ h (suc q) (suc-le-suc l) ∙ digit-suc b q) in
     let low : a % 2 ≡ b % 2 = sym (digit-zero a) ∙ h 0 (zero-lt-suc k) ∙ digit-zero b in
     omega arith
 
-pub set-known : (k a b : ℕ) → a < 2 ^ k → b < 2 ^ k → ((q : ℕ) → q < k → has a q ≡ has b q) → a ≡ b
+set-known : (k a b : ℕ) → a < 2 ^ k → b < 2 ^ k → ((q : ℕ) → q < k → has a q ≡ has b q) → a ≡ b
 set-known k a b ha hb h = digits-known k a b ha hb (λ q l. sym (bit-has a q) ∙ ap bit (h q l) ∙ bit-has b q)
 
 pub none-inside : (m : ℕ) → m < 2 ^ maskPorts → ((q : ℕ) → q < maskPorts → No (has m q)) → m ≡ 0
 none-inside m h f = set-known maskPorts m 0 h (zero-lt-suc 65535) (λ q l. f q l ∙ sym (has-none q))
 
--- a set that is not empty has a member
-pub some-inside : (m : ℕ) → m < 2 ^ maskPorts → (m ≡ 0 → ⊥) → (q : ℕ) × So (has m q)
-some-inside m h ne = ⊎-elim (λ x. let q = any→ (has m) maskPorts x in (q .0, q .2)) (λ x. absurd (ne (none-inside m h (λ q l. to-no (λ y. refuted (→any (has m) maskPorts q l y) x))))) (passes (any (has m) maskPorts))
-
--- what was in, stays in, or was taken out
-module _ {m p r : ℕ} (d : Removed m p r) where
-  pub removed-part : (q : ℕ) → So (has r q) → So (has m q)
-  removed-part q h = ⊎-elim (λ x. absurd (refuted (ap (has r) (sym (eqb-true q p x)) ∙ h) (d .outside))) (λ x. sym (d .others q (eqb-false q p x)) ∙ h) (passes (eqb q p))
-
-  pub removed-out : (q : ℕ) → No (has m q) → No (has r q)
-  removed-out q n = to-no (λ h. refuted (removed-part q h) n)
-
-  pub removed-split : (q : ℕ) → No (has r q) → (q ≡ p) ⊎ No (has m q)
-  removed-split q n = ⊎-elim (λ x. inl (eqb-true q p x)) (λ x. inr (sym (d .others q (eqb-false q p x)) ∙ n)) (passes (eqb q p))
-
 pub added-kept : {m p r : ℕ} → Added m p r → (q : ℕ) → So (has m q) → So (has r q)
 added-kept {m} {p} {r} d q h = ⊎-elim (λ x. ap (has r) (eqb-true q p x) ∙ d .inside) (λ x. d .others q (eqb-false q p x) ∙ h) (passes (eqb q p))
-
--- of a set with one added, a member is that one or was in
-pub added-split : {m p r : ℕ} → Added m p r → (q : ℕ) → So (has r q) → (q ≡ p) ⊎ So (has m q)
-added-split {m} {p} {r} d q h = ⊎-elim (λ x. inl (eqb-true q p x)) (λ x. inr (sym (d .others q (eqb-false q p x)) ∙ h)) (passes (eqb q p))
 
 -- Walks over a set -------------------------------------------------------------------------------
 

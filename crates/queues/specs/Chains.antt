@@ -33,7 +33,11 @@ link-on : {cl : ℕ → ℕ} {p k v : ℕ} → Link cl p k v → (cl k ≡ p →
 link-on {cl} {p} {k} {v} l ne = record {
   within = omega (arith, l .within);
   member = l .member;
-  highest = λ j a b e. ⊎-elim (λ (x : So (eqb j k)). ne (ap cl (sym (eqb-true j k x)) ∙ e)) (λ x. l .highest j a (let n = eqb-false j k x in omega arith) e) (passes (eqb j k));
+  highest = λ j a b e.
+      ⊎-elim
+      (λ (x : So (eqb j k)). ne (ap cl (sym (eqb-true j k x)) ∙ e))
+      (λ x. l .highest j a (let n = eqb-false j k x in omega arith) e)
+      (passes (eqb j k));
 }
 
 link-here : {cl : ℕ → ℕ} {p k : ℕ} → cl k ≡ p → Link cl p (k + 1) (suc k)
@@ -201,13 +205,19 @@ module _ {table qs : List ℕ} {input : Input} {output : Output} (stale : Stale 
           member = λ j e. m .member j e ∙ s .member k refl;
           first =
               first-join (olderAt cs) (ranks-on older older-ranks (nth cs)) _ _ _ (length cs)
-              (λ j l h. let x = both (not (ltb j (suc k))) _ h in join _ _ (deny _ (le-ltb j (nextWord qs k) (omega (arith, m .within, ltb-false j (suc k) (denied _ (x .0)))))) (x .1))
-              (λ j l h. let x = both (eqb j k) _ h in join _ _ (deny _ (le-ltb j (nextWord qs k) (omega (arith, m .within, eqb-true j k (x .0))))) (x .1))
+              (λ j l h.
+              let x = both (not (ltb j (suc k))) _ h in
+              join _ _ (from-next j (omega (arith, m .within, ltb-false j (suc k) (denied _ (x .0))))) (x .1))
+              (λ j l h. let x = both (eqb j k) _ h in join _ _ (from-next j (omega (arith, m .within, eqb-true j k (x .0)))) (x .1))
               (λ j l h. let x = both (not (ltb j (nextWord qs k))) _ h in split j l (ltb-false j _ (denied _ (x .0))) (x .1))
               found (waitingAt cs k) (s .first) alone;
         }
       where
-        split : (j : ℕ) → j < length cs → nextWord qs k ≤ j → So (waitsFor i o (nth cs j)) → So (not (ltb j (suc k)) && waitsFor i o (nth cs j)) ⊎ So (eqb j k && waitsFor i o (nth cs j))
+        from-next : (j : ℕ) → nextWord qs k ≤ j → So (not (ltb j (nextWord qs k)))
+        from-next j l = deny _ (le-ltb j (nextWord qs k) l)
+
+        split : (j : ℕ) → j < length cs → nextWord qs k ≤ j → So (waitsFor i o (nth cs j))
+            → So (not (ltb j (suc k)) && waitsFor i o (nth cs j)) ⊎ So (eqb j k && waitsFor i o (nth cs j))
         split j l a h =
             ⊎-elim
             (λ x. inr (join _ _ x h))
@@ -220,10 +230,12 @@ module _ {table qs : List ℕ} {input : Input} {output : Output} (stale : Stale 
 
   -- the same, in the words of the code
   pub looked-on : (v k : ℕ) (found : Found) → v ≡ suc k → Looked (stale .queues .cl) table (input .0) (output .0) v found
-      → (nextWord qs k < v) × Looked (stale .queues .cl) table (input .0) (output .0) (nextWord qs k) (firstFound (olderAt (cellsOf table)) found (waitingAt (cellsOf table) k))
+      → let next : Found = firstFound (olderAt (cellsOf table)) found (waitingAt (cellsOf table) k) in
+      (nextWord qs k < v) × Looked (stale .queues .cl) table (input .0) (output .0) (nextWord qs k) next
   looked-on v k found e s = let u = rw e at s in (omega (arith, next k found u .within, e), looked-next k found u)
 
-  pub looked-all : (v : ℕ) (found : Found) → v ≡ 0 → Looked (stale .queues .cl) table (input .0) (output .0) v found → found ≡ headOf (cellsOf table) (input .0) (output .0)
+  pub looked-all : (v : ℕ) (found : Found) → v ≡ 0 → Looked (stale .queues .cl) table (input .0) (output .0) v found
+      → found ≡ headOf (cellsOf table) (input .0) (output .0)
   unfolding headBelow
   looked-all v found z s =
       first-least (olderAt cs) (ranks-on older older-ranks (nth cs)) (λ j. waitsFor i o (nth cs j)) (length cs) found

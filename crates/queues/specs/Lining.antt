@@ -4,7 +4,7 @@
 use Prim.Native.Nat.{ℕ, zero, suc, _+_, _-_, _<_, _≤_}
 use mathlib.Core.Path.{_≡_, refl, sym, ap, ap₂, _∙_}
 use mathlib.Core.Logic.{⊎-elim}
-use mathlib.Core.Bool.{Bool, So, true, false, cond, false≢true}
+use mathlib.Core.Bool.{Bool, So, false≢true}
 use mathlib.Core.List.{List}
 use native.Mathlib.Omega.{arith}
 use native.Mathlib.Numerals.{add-one}
@@ -16,7 +16,7 @@ use Rattle.laws.specs.Bits.{and-none}
 use Rattle.laws.specs.Tests.{No, passes, refuted, to-no, cond-true, cond-false}
 use Rattle.laws.specs.Walk.{over, over-more}
 use Rattle.laws.specs.Least.{least-zero, least-more, least-below, Below, below-wider, sooner, sooner-skip}
-use Rattle.laws.specs.First.{firstFound, firstFound-sooner, firstFound-below}
+use Rattle.laws.specs.First.{firstFound, firstFound-sooner}
 use Rattle.laws.specs.declared.Found.{Found}
 use Rattle.laws.specs.declared.Found.the-variants.{At, Nothing}
 use Rattle.ports.specs.Ports.{has}
@@ -27,8 +27,10 @@ use Rattle.ideal.specs.Cells.{waiting→}
 use Rattle.words.specs.Words.{length-cellsOf}
 use Rattle.sift.specs.Stretch.{waitingBit}
 use Rattle.table.specs.Table.{olderAt}
-use Rattle.queues.specs.Layout.{pairs, tops, links, senderSets, wantedSet, queueWords, pair, pairOf, same-pair, headWord, senders, wanted, noQueues, zero-word, nameOf, named, named-name, isFound}
-use Rattle.queues.specs.Queues.{Ports, waitsFor, waits→, →waits, headBelow, Heads, All, But, Queues, waitingAt, classOf, linked, headSet, chained, oldHead, newHead, compared, joined, linedTo, linedUp, Lineable, LinedTo, Joinable}
+use Rattle.queues.specs.Layout.{pairs, tops, links, senderSets, wantedSet, queueWords, pair, pairOf, same-pair}
+use Rattle.queues.specs.Layout.{headWord, senders, wanted, noQueues, zero-word, nameOf, named, named-name, isFound}
+use Rattle.queues.specs.Queues.{Ports, waitsFor, waits→, →waits, headBelow, Heads, All, But, Queues, waitingAt, classOf}
+use Rattle.queues.specs.Queues.{linked, headSet, chained, oldHead, newHead, compared, joined, linedTo, linedUp, Lineable, LinedTo, Joinable}
 use Rattle.queues.specs.Chains.{no-chains, chains-skip, chains-kept, chains-link, class-waiting, class-other, linked-long, linked-other}
 use Rattle.queues.specs.Heads.{head-below, HeadSet, head-set}
 
@@ -51,14 +53,6 @@ module _ (cs : List Cell) (k : ℕ) {c : Cell} (e : c ≡ nth cs k) where
   unfolding waitingAt
   waiting-none h = cond-false (isWaiting (nth cs k)) (At k) Nothing (not-waiting h)
 
-waiting-below : (n : ℕ) (cs : List Cell) (k : ℕ) → k < n → Below n (waitingAt cs k)
-unfolding waitingAt
-waiting-below n cs k l = go (isWaiting (nth cs k))
-  where
-    go : (b : Bool) → Below n (cond b (At k) Nothing)
-    go true = l
-    go false = tt
-
 -- One more record --------------------------------------------------------------------------------
 
 module _ (cs : List Cell) (k : ℕ) (qs : List ℕ) where
@@ -66,7 +60,7 @@ module _ (cs : List Cell) (k : ℕ) (qs : List ℕ) where
   unfolding joined
   joined-skip h = cond-false (isWaiting (nth cs k)) _ qs h
 
-  pub joined-waits : So (isWaiting (nth cs k)) → joined cs k qs ≡ compared cs k (chained cs k qs)
+  joined-waits : So (isWaiting (nth cs k)) → joined cs k qs ≡ compared cs k (chained cs k qs)
   unfolding joined
   joined-waits h = cond-true (isWaiting (nth cs k)) _ qs h
 
@@ -92,7 +86,7 @@ module _ (cs : List Cell) (k i o : ℕ) where
       ∙ sym (ap (firstFound (olderAt cs) (headBelow cs k i o)) (cond-true (isWaiting (nth cs k)) (At k) Nothing (waits→ i o (nth cs k) h .0)))
 
 -- what does not wait changes nothing
-pub lined-skip : {cs : List Cell} {k : ℕ} {qs : List ℕ} → No (isWaiting (nth cs k)) → LinedTo cs k qs → LinedTo cs (k + 1) qs
+lined-skip : {cs : List Cell} {k : ℕ} {qs : List ℕ} → No (isWaiting (nth cs k)) → LinedTo cs k qs → LinedTo cs (k + 1) qs
 lined-skip {cs} {k} n y = record {
   long = y .long;
   chains = chains-skip (y .chains) (class-other _ _ n);
@@ -132,7 +126,7 @@ module _ {table : List ℕ} {k : ℕ} {qs : List ℕ} (j : Joinable table k qs) 
   pub joins-pair : pairOf (nth (cellsOf table) k) < pairs
   joins-pair = omega (arith, joins-ports .input, joins-ports .output)
 
-  pub joins-long : length (chained (cellsOf table) k qs) ≡ queueWords
+  joins-long : length (chained (cellsOf table) k qs) ≡ queueWords
   joins-long = linked-long qs (j .below .long) _ joins-pair k names
 
   -- another word than those of the chain
@@ -142,7 +136,8 @@ module _ {table : List ℕ} {k : ℕ} {qs : List ℕ} (j : Joinable table k qs) 
   -- what was the head, and what is it now
   was-head : oldHead cs k ms ≡ headBelow cs k i o
   was-head =
-      ap named (apart (pair i o) (omega (arith, joins-pair)) (omega (arith, joins-pair)) ∙ j .below .heads .head i o (joins-ports .input) (joins-ports .output) tt)
+      ap named
+      (apart (pair i o) (omega (arith, joins-pair)) (omega (arith, joins-pair)) ∙ j .below .heads .head i o (joins-ports .input) (joins-ports .output) tt)
       ∙ named-name (headBelow cs k i o)
 
   is-head : newHead cs k ms ≡ headBelow cs (k + 1) i o
@@ -256,7 +251,14 @@ module _ {table : List ℕ} (f : Lineable table) where
   pub lined-up : Queues All (cellsOf table) (linedUp (cellsOf table))
   lined-up =
       let y = lined-to (length (cellsOf table)) (omega (arith, length-cellsOf table)) in
-      record { cl = classOf (cellsOf table); long = y .long; ports = f .ports; chains = y .chains; covers = λ k i w. class-waiting (cellsOf table) k w; heads = y .heads }
+      record {
+        cl = classOf (cellsOf table);
+        long = y .long;
+        ports = f .ports;
+        chains = y .chains;
+        covers = λ k i w. class-waiting (cellsOf table) k w;
+        heads = y .heads;
+      }
 
 -- From one waiting cell to the next --------------------------------------------------------------
 

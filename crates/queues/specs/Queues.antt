@@ -20,7 +20,8 @@ use Rattle.rules.specs.declared.Cell.{Cell}
 use Rattle.rules.specs.Cells.{mostPorts, mostRecords, nth, isWaiting, records, cellsOf}
 use Rattle.ideal.specs.InPorts.{InPorts}
 use Rattle.table.specs.Table.{olderAt}
-use Rattle.queues.specs.Layout.{pairs, tops, links, senderSets, wantedSet, queueWords, pair, pairOf, headWord, topWord, nextWord, senders, wanted, noQueues, nameOf, named, isFound}
+use Rattle.queues.specs.Layout.{pairs, tops, links, senderSets, wantedSet, queueWords, pair, pairOf}
+use Rattle.queues.specs.Layout.{headWord, topWord, nextWord, senders, wanted, noQueues, nameOf, named, isFound}
 
 -- What the words say of a table ------------------------------------------------------------------
 

@@ -8,6 +8,7 @@ use rules::Input;
 use rules::MOST_RECORDS;
 use rules::Output;
 use rules::PORT_COUNT;
+use sift::STRETCH;
 ghost use mathlib.Core.Path.{_≡_};
 ghost use Prim.Native.Nat.{_<_};
 ghost use lib.ListN.{length, replicate};
@@ -160,7 +161,7 @@ pub fn line_up(table: &[u32], queues: &mut [u16])
     ensures { λ _. ⌜ now (queues .exit) ≡ linedUp (cellsOf (now (table .entry))) ⌝ }
 {
     let n = table::record_count(table);
-    let mut list = [0u8; 256];
+    let mut list = [0u8; STRETCH];
     let mut k = 0;
     'stretches: while k < n {
         let end = sift::stretch_end(k, n);

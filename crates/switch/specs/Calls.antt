@@ -77,7 +77,8 @@ module _ {w : Switch} {table : List ℕ} {l : Lists} (a : Accepted w table l) wh
       settled : t3 ≡ withRecords table final
       settled =
           with-then table full h1 full-many final
-          (with-then t1 _ h2 many final (h3 ∙ ap (λ (cs : List Cell). withRecords t2 (exhale (w .ports) cs)) last) (final-many ∙ sym (many ∙ ap length c1 ∙ full-many)))
+          (with-then t1 _ h2 many final (h3 ∙ ap (λ (cs : List Cell). withRecords t2 (exhale (w .ports) cs)) last)
+          (final-many ∙ sym (many ∙ ap length c1 ∙ full-many)))
           (final-many ∙ sym full-many)
 
 -- What an answer settles: any two outcomes that the contracts allow for one input are equal --------------

@@ -22,7 +22,8 @@ abbrev start : tie.At-loop Inv-loop μ-loop → tie.Start Inv-loop μ-loop
 start c = c .before .before .before .before .before
 
 -- the walk is over the inputs that have a cell and are not taken
-left-is : (c : tie.At-loop Inv-loop μ-loop) → Except (senders (now (start c .args .queues)) (start c .args .o .0)) (start c .args .inputs) (c .before .except .result)
+left-is : (c : tie.At-loop Inv-loop μ-loop)
+    → Except (senders (now (start c .args .queues)) (start c .args .o .0)) (start c .args .inputs) (c .before .except .result)
 left-is c = rw (c .before .before .senders-for .ensures) at (excepted (c .before .except .ensures))
 
 -- one of them is visited
@@ -59,8 +60,10 @@ older-finding-requires : tie.Need-older-finding-requires Inv-loop μ-loop
 older-finding-requires c κs =
     let l = turn (c .before) in
     let p = start l .pre in
-    let e = length-cellsOf (now (start l .args .table)) in
-    (rw e at (walk-below _ _ (cellsOf (now (start l .args .table))) (l .loop .inv .holds)), head-below-records (p .1) _ _ (visit (c .before) .lowest .small) (p .0) e _ (c .head-of .ensures))
+    let e = length-cellsOf (now (start l .args .table)) in (
+      rw e at (walk-below _ _ (cellsOf (now (start l .args .table))) (l .loop .inv .holds)),
+      head-below-records (p .1) _ _ (visit (c .before) .lowest .small) (p .0) e _ (c .head-of .ensures),
+    )
 
 loop-less : tie.Need-loop-less Inv-loop μ-loop
 loop-less c = visit (c .before .before) .less

@@ -13,7 +13,9 @@ except-requires : tie.Need-except-requires
 except-requires c κs = search needs
 
 returns : tie.Need-returns
-returns c = servable-test (c .before .before .before .before .pre .1) _ _ _ (c .before .before .before .before .pre .0) (rw (c .before .senders-for .ensures) at (excepted (c .except .ensures))) (omega arith)
+returns c =
+    let p = c .before .before .before .before .pre in
+    servable-test (p .1) _ _ _ (p .0) (rw (c .before .senders-for .ensures) at (excepted (c .except .ensures))) (omega arith)
 
 pub is-servable-spec : {M : Type 1} → statement M
 is-servable-spec = tie.close (tie.spec senders-for-requires except-requires returns)

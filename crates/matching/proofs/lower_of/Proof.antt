@@ -26,7 +26,8 @@ with-requires-2 c κs = search needs
 returns-4 : tie.Need-returns-4
 unfolding lowered
 returns-4 c =
-    rw (ne-eqb _ _ (c .before .before .before .before .before .if1 .left), le-ltb _ _ (c .before .before .before .if2 .left), le-ltb _ _ (c .before .if3 .left), c .with2 .ensures)
+    let d = c .before .if3 .left in
+    rw (ne-eqb _ _ (c .before .before .before .before .before .if1 .left), le-ltb _ _ (c .before .before .before .if2 .left), le-ltb _ _ d, c .with2 .ensures)
 
 pub lower-of-spec : {M : Type 1} → statement M
 lower-of-spec =

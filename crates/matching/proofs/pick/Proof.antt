@@ -68,7 +68,8 @@ rounds-again c =
     let f = found (t .before) in
     let s = scan f in
     let r = round-of s in
-    rounds-more (r .rounds .inv) (s .first-candidate .ensures .0) (f .found .given .1) (start r .pre .0 .orderly) (tested c) (s .first-candidate .ensures .1) (t .take .ensures)
+    let e = s .first-candidate .ensures in
+    rounds-more (r .rounds .inv) (e .0) (f .found .given .1) (start r .pre .0 .orderly) (tested c) (e .1) (t .take .ensures)
 
 -- the table and the list of queues are as long as they were
 table-long : (c : tie.At-rounds Inv-rounds μ-rounds) → length (c .rounds .table) ≡ length (now (start c .args .table))

@@ -9,7 +9,6 @@ use denote.Ref.{now}
 use Rattle.laws.specs.SetWalk.{Walked, Filled, walk-none, filled-nobody, filled-visit}
 use Rattle.ports.specs.Ports.{has, Visits}
 use Rattle.ports.specs.PortLaws.{lowest-port, visits, walk-visit, walk-done}
-use Rattle.matching.specs.Transfer.{Written}
 use Rattle.matching.proofs.write_words.Statement.{statement}
 use Rattle.matching.proofs.write_words.Tie as tie
 
@@ -43,7 +42,9 @@ clear-requires : tie.Need-clear-requires Inv-loop μ-loop
 clear-requires c κs = tt
 
 loop-holds : tie.Need-loop-holds Inv-loop μ-loop
-loop-holds c = (refl, rw (c .before .before .clear .ensures) (walk-none (filled-nobody _ (length (now (c .before .before .before .before .before .args .words))))))
+loop-holds c =
+    let s = c .before .before .before .before .before in
+    (refl, rw (c .before .before .clear .ensures) (walk-none (filled-nobody _ (length (now (s .args .words))))))
 
 lowest-requires : tie.Need-lowest-requires Inv-loop μ-loop
 lowest-requires c κs = omega arith

@@ -1,5 +1,5 @@
 -- A record that does not wait changes nothing; one that does becomes its chain's top, and the head if it is the older.
-use mathlib.Core.Path.{_≡_, sym, ap, _∙_}
+use mathlib.Core.Path.{_≡_, sym}
 use mathlib.Core.Bool.{So}
 use denote.Ref.{now}
 use Rattle.rules.specs.Cells.{nth, isWaiting, cellsOf}
@@ -13,8 +13,8 @@ cell-at-requires c κs = c .before .before .pre .inside
 
 returns : tie.Need-returns
 returns c =
-    let s = c .before .before .before .before .before in
-    sym (joined-skip (cellsOf (now (s .args .table))) _ _ (not-waiting (cellsOf (now (s .args .table))) _ (c .before .before .cell-at .ensures) (c .if1 .taken)))
+    let cs = cellsOf (now (c .before .before .before .before .before .args .table)) in
+    sym (joined-skip cs _ _ (not-waiting cs _ (c .before .before .cell-at .ensures) (c .if1 .taken)))
 
 -- what is known behind the test: the call's own facts, the record read, and that it waits
 abbrev start : tie.After-link-arg → tie.Start

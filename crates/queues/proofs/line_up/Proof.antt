@@ -57,8 +57,9 @@ abbrev listed : tie.In-sifted Inv-sifted μ-sifted Inv-stretches μ-stretches �
 listed c = c .before .before .sift-records .last .1 .1 .1 .1 .0
 
 turn : (c : tie.In-sifted Inv-sifted μ-sifted Inv-stretches μ-stretches)
-    → let t = now (start (outer c) .args .table) in
-    Visit (λ x. c .before .sifted .queues ≡ linedTo (cellsOf t) x) t (outer c .stretches .k) (c .before .before .before .before .stretch-end .result) (listed c) (c .before .sifted .j)
+    → let table = now (start (outer c) .args .table) in
+    let end = c .before .before .before .before .stretch-end .result in
+    Visit (λ x. c .before .sifted .queues ≡ linedTo (cellsOf table) x) table (outer c .stretches .k) end (listed c) (c .before .sifted .j)
 turn c = pass-turn (c .before .sifted .inv) (lined-keeps (now (start (outer c) .args .table))) (c .sifted-test .taken)
 
 array-read-join : tie.Need-array-read-join Inv-sifted μ-sifted Inv-stretches μ-stretches
@@ -101,7 +102,8 @@ stretches-again c =
     (omega (arith, p .stretch, s), p .listed .long, pass-ends p (lined-keeps (now (start (s .before .before) .args .table))) (c .sifted-test .left))
 
 -- all records have joined
-all : (c : tie.After-stretches Inv-sifted μ-sifted Inv-stretches μ-stretches) → c .before .stretches .queues ≡ linedUp (cellsOf (now (start (c .before) .args .table)))
+all : (c : tie.After-stretches Inv-sifted μ-sifted Inv-stretches μ-stretches)
+    → c .before .stretches .queues ≡ linedUp (cellsOf (now (start (c .before) .args .table)))
 all c =
     let cs = cellsOf (now (start (c .before) .args .table)) in
     let e : c .before .stretches .k ≡ length cs = omega (arith, length-cellsOf (now (start (c .before) .args .table))) in

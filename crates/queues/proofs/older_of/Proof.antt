@@ -23,8 +23,10 @@ older-finding-requires c κs = search needs
 
 returns-2 : tie.Need-returns-2
 returns-2 c =
-    let cs = cellsOf (now (c .before .before .before .before .before .args .table)) in
-    c .older-finding .ensures ∙ sym (ap (firstFound (olderAt cs) (c .before .before .before .before .before .args .found)) (waiting-here cs _ (c .before .before .before .cell-at .ensures) (c .before .if1 .left)))
+    let s = c .before .before .before .before .before in
+    let cs = cellsOf (now (s .args .table)) in
+    let w = waiting-here cs _ (c .before .before .before .cell-at .ensures) (c .before .if1 .left) in
+    c .older-finding .ensures ∙ sym (ap (firstFound (olderAt cs) (s .args .found)) w)
 
 pub older-of-spec : {M : Type 1} → statement M
 older-of-spec = tie.close (tie.spec cell-at-requires returns older-finding-requires returns-2)

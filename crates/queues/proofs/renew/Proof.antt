@@ -1,7 +1,4 @@
 -- The head that was found is put in the place of the old one.
-use mathlib.Core.Path.{_∙_, ap}
-use denote.Ref.{now}
-use Rattle.queues.specs.Queues.{headSet}
 use Rattle.queues.specs.Heads.{head-fits}
 use borrow.Author.Needs.{needs}
 use Rattle.queues.proofs.renew.Statement.{statement}

@@ -1,6 +1,5 @@
 -- One word is the head, one the set of inputs with this one added, or taken out where there is no head, one the set of outputs.
 use Prim.Native.Nat.{_<_}
-use mathlib.Core.Path.{_≡_}
 use native.Mathlib.Omega.{arith}
 use native.Mathlib.Numerals.{add-one}
 use lib.ListN.{length-set}

@@ -46,7 +46,8 @@ returns c =
     let t = transferring (e .before) in
     let r = reading (t .before) in
     let i = inhaling (r .before) in
-    runs (start i .pre) _ _ _ _ _ _ (i .inhale .ensures) (r .read .ensures) (t .transfers .ensures .0) (t .transfers .ensures .1) (e .exhale .ensures .0) (e .exhale .ensures .1)
+    runs (start i .pre) _ _ _ _ _ _ (i .inhale .ensures) (r .read .ensures)
+    (t .transfers .ensures .0) (t .transfers .ensures .1) (e .exhale .ensures .0) (e .exhale .ensures .1)
 
 pub run-spec : {M : Type 1} → statement M
 run-spec =
