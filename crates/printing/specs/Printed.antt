@@ -1,19 +1,18 @@
--- Document 01, "The program": the lines that are printed, as bytes.
+-- Document 01, "The program": the lines that are printed, as bytes, and how long they get.
 -- Assumes nothing.
-use Prim.Native.Nat.{ℕ, zero, suc, _+_, _/_, _%_}
-use mathlib.Core.Bool.{true, false}
+use Prim.Native.Nat.{ℕ, zero, suc, _+_, _*_, _/_, _%_}
+use mathlib.Core.Bool.{true, false, cond}
 use mathlib.Core.List.{List, [], _∷_, _++_}
-use lib.Dec.{ltb}
+use lib.Dec.{eqb, ltb}
+use lib.ListN.{length, getD}
+use Rattle.laws.specs.Lists.{blocks}
 use Rattle.laws.specs.Texts.{bytes}
-
--- a digit's byte
-abbrev pub digit : ℕ → ℕ
-digit n = 48 + n
+use Rattle.characters.specs.Characters.{space, newline, digitByte}
 
 -- the digits of n, at most k of them from the right
 unfoldable pub digits : ℕ → ℕ → List ℕ
 digits zero n = []
-digits (suc k) n = elim (ltb n 10) [ true ↦ digit n ∷ [] | false ↦ digits k (n / 10) ++ (digit (n % 10) ∷ []) ]
+digits (suc k) n = elim (ltb n 10) [ true ↦ digitByte n ∷ [] | false ↦ digits k (n / 10) ++ (digitByte (n % 10) ∷ []) ]
 
 -- "Numbers are decimal digits": without leading zeros; n has no more than n + 1 digits
 unfoldable pub decimal : ℕ → List ℕ
@@ -23,17 +22,27 @@ decimal n = digits (suc n) n
 unfoldable pub field : ℕ → ℕ → List ℕ
 field n b = decimal n ++ (b ∷ [])
 
+-- numbers one space apart, and a newline behind the last
+abbrev pub byteAfter : ℕ → ℕ → ℕ
+byteAfter k n = cond (eqb (k + 1) n) newline space
+
+abbrev pub fieldAt : List ℕ → ℕ → List ℕ
+fieldAt l k = field (getD l k 0) (byteAfter k (length l))
+
+unfoldable pub numbersLine : List ℕ → List ℕ
+numbersLine l = blocks (length l) (fieldAt l)
+
 -- "It prints a header"
 unfoldable pub headerLine : List ℕ
 headerLine = bytes "slot output input entered tag\n"
 
--- "then each emitted cell by slot and output: slot, output, input, slot of entry, tag"
-unfoldable pub cellLine : ℕ → ℕ → ℕ → ℕ → ℕ → List ℕ
-cellLine slot output input entered tag = field slot 32 ++ (field output 32 ++ (field input 32 ++ (field entered 32 ++ field tag 10)))
+-- "then each emitted cell by slot and output: slot, output, input, slot of entry, tag": what an exhaled entry says of the cell comes last
+unfoldable pub cellLine : ℕ → ℕ → List ℕ → List ℕ
+cellLine slot output entry = field slot space ++ (field output space ++ numbersLine entry)
 
 -- "A refused slot prints `refused` and the number"
 unfoldable pub refusedLine : ℕ → List ℕ
-refusedLine n = bytes "refused " ++ field n 10
+refusedLine n = bytes "refused " ++ field n newline
 
 -- "An unreadable line prints `unreadable`"
 unfoldable pub unreadableLine : List ℕ
@@ -41,4 +50,17 @@ unreadableLine = bytes "unreadable\n"
 
 -- "The last line is `held` and the number of live cells"
 unfoldable pub heldLine : ℕ → List ℕ
-heldLine n = bytes "held " ++ field n 10
+heldLine n = bytes "held " ++ field n newline
+
+-- how long they get -----------------------------------------------------------------------------
+
+-- a number of 32 bits has at most ten digits, and a byte behind it
+abbrev pub fieldBytes : ℕ
+fieldBytes = 10 + 1
+
+-- how many numbers a cell's line has; it is the longest line
+abbrev pub columns : ℕ
+columns = 5
+
+abbrev pub lineBytes : ℕ
+lineBytes = columns * fieldBytes

@@ -3,18 +3,19 @@
 use Prim.Native.Nat.{ℕ}
 use Prim.Native.String.{String}
 use mathlib.Core.Path.{_≡_, refl}
-use mathlib.Core.List.{List, flatMap}
-use Rattle.laws.specs.Folds.{fold, each}
+use mathlib.Core.List.{List}
 use Rattle.laws.specs.Texts.{bytes}
+use Rattle.laws.specs.Pieces.{part}
 use Rattle.rules.specs.Computing.{Computing}
-use Rattle.text.specs.Lines.{cut, isDigit, push, value, isNumber, firstLine, isOutput, arrival, isSlotLine, slotWords}
-use Rattle.printing.specs.Printed.{digits, decimal, field, headerLine, cellLine, refusedLine, unreadableLine, heldLine}
-use Rattle.program.specs.Program.{linesOf, heldText, endText, cellText, slotText, slotOn, lineText, lineAfter, slotsText, startText, firstText, openingText, programText}
+use Rattle.text.specs.Examples.{Lining}
+use Rattle.printing.specs.Examples.{Printing}
+use Rattle.program.specs.Program.{linesOf, heldText, endText, cellText, slotText, slotOn, answerText}
+use Rattle.program.specs.Program.{lineText, lineAfter, slotsText, startText, firstText, openingText, programText}
 
 unfoldable pub prints : String → List ℕ
 prints s = programText (bytes s)
 
-pub record Examples : Type 0 where
+pub record ProgramExamples : Type 0 where
   pub whole : prints "2 3 4\n0:10 0:11\n1:12 -\n- -\n" ≡ bytes "slot output input entered tag\n0 0 0 0 10\n1 0 1 0 11\n1 1 0 1 12\nheld 0\n"
   -- one message stands by itself
   pub missing : prints "" ≡ bytes "unreadable\n"
@@ -28,9 +29,10 @@ pub record Examples : Type 0 where
   pub unreadable : prints "2 3 1\n7:5 x\n0:4 -\n" ≡ bytes "slot output input entered tag\nunreadable\nheld 0\n"
   pub after-last : prints "2 3 2\n0:1 0:2\n- -" ≡ bytes "slot output input entered tag\n0 0 0 0 1\nunreadable\nheld 1\n"
 
-pub examples : Examples
-unfolding Computing fold each flatMap bytes cut isDigit push value isNumber firstLine isOutput arrival isSlotLine slotWords digits decimal field headerLine cellLine refusedLine unreadableLine heldLine linesOf heldText endText cellText slotText slotOn lineText lineAfter slotsText startText firstText openingText programText prints
-examples = record {
+pub program-examples : ProgramExamples
+unfolding Computing Lining Printing bytes part linesOf heldText endText cellText slotText slotOn answerText lineText lineAfter slotsText
+    startText firstText openingText programText prints
+program-examples = record {
   whole = refl;
   missing = refl;
   unended = refl;

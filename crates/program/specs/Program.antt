@@ -7,12 +7,16 @@ use mathlib.Core.List.{List, [], _∷_, _++_}
 use lib.Dec.{eqb}
 use lib.ListN.{getD, replicate}
 use Rattle.laws.specs.Lists.{blocks}
+use Rattle.laws.specs.Pieces.{part}
+use Rattle.rules.specs.declared.Switch.{Switch}
+use Rattle.rules.specs.declared.Answer.{Answer}
 use Rattle.rules.specs.Cells.{switch, width, cellsOf}
 use Rattle.rules.specs.Answers.{lists, numberOf, isDone, exhaledWidth, live}
 use Rattle.rules.specs.Calls.{Started, freshStart, Outcome, slot, State}
 use Rattle.text.specs.declared.FirstLine.{FirstLine}
 use Rattle.text.specs.declared.FirstLine.the-variants.{Numbers, Unreadable}
-use Rattle.text.specs.Lines.{newline, cut, isEmpty, firstLine, isSlotLine, slotWords}
+use Rattle.characters.specs.Characters.{newline}
+use Rattle.text.specs.Lines.{cut, isEmpty, firstLine, isSlotLine, slotLineWords}
 use Rattle.printing.specs.Printed.{headerLine, cellLine, refusedLine, unreadableLine, heldLine}
 
 -- "a line ends with a newline": the lines, and last what stands after the last newline
@@ -27,11 +31,9 @@ heldText x = heldLine (live (cellsOf (x .table)))
 unfoldable pub endText : State → List ℕ
 endText x = unreadableLine ++ heldText x
 
--- "each emitted cell by slot and output: slot, output, input, slot of entry, tag": what output o emitted, from its four exhaled words
+-- "each emitted cell by slot and output: slot, output, input, slot of entry, tag": what output o emitted, if its entry says so in its first word
 unfoldable pub cellText : ℕ → List ℕ → ℕ → List ℕ
-cellText t e o =
-    cond (eqb (getD e (o * exhaledWidth) 0) 0) []
-    (cellLine t o (getD e (o * exhaledWidth + 1) 0) (getD e (o * exhaledWidth + 2) 0) (getD e (o * exhaledWidth + 3) 0))
+cellText t e o = cond (eqb (getD e (o * exhaledWidth) 0) 0) [] (cellLine t o (part e (o * exhaledWidth + 1) (o * exhaledWidth + exhaledWidth)))
 
 unfoldable pub slotText : ℕ → ℕ → List ℕ → List ℕ
 slotText t n e = blocks n (cellText t e)
@@ -42,10 +44,11 @@ slotOn x words =
     slot (x .numbers) (x .table) (lists words (replicate (x .numbers .speedup * x .numbers .ports) 0) (replicate (x .numbers .ports * exhaledWidth) 0))
 
 -- "A refused slot prints `refused` and the number, and the next line is tried at the same slot."
+unfoldable pub answerText : Switch → Answer → List ℕ → List ℕ
+answerText w a e = cond (isDone a) (slotText (w .next .0) (w .ports) e) (refusedLine (numberOf a))
+
 unfoldable pub lineText : State → List ℕ → List ℕ
-lineText x words =
-    let o : Outcome = slotOn x words in
-    cond (isDone (o .answer)) (slotText (x .numbers .next .0) (x .numbers .ports) (o .exhaled)) (refusedLine (numberOf (o .answer)))
+lineText x words = let o : Outcome = slotOn x words in answerText (x .numbers) (o .answer) (o .exhaled)
 
 unfoldable pub lineAfter : State → List ℕ → State
 lineAfter x words = let o : Outcome = slotOn x words in record { numbers = o .numbers; table = o .table }
@@ -55,7 +58,7 @@ unfoldable pub slotsText : State → List (List ℕ) → List ℕ
 slotsText x [] = endText x
 slotsText x (rest ∷ []) = cond (isEmpty rest) (heldText x) (endText x)
 slotsText x (line ∷ (l ∷ ls)) =
-    cond (isSlotLine (x .numbers .ports) line) (lineText x (slotWords line) ++ slotsText (lineAfter x (slotWords line)) (l ∷ ls)) (endText x)
+    cond (isSlotLine (x .numbers .ports) line) (lineText x (slotLineWords line) ++ slotsText (lineAfter x (slotLineWords line)) (l ∷ ls)) (endText x)
 
 -- "If .. its fresh start is refused, that one message stands by itself." Otherwise "a header" comes first.
 unfoldable pub startText : Started → List (List ℕ) → List ℕ

@@ -1,34 +1,49 @@
 // The program of document 01 without its reading and writing: a state by value that takes the pieces that the input comes in, and puts what
-// is to be printed into a lent buffer. Every number printed, refusals too, is an answer of the switch's two public calls.
+// is to be printed into a lent buffer. Every number printed, refusals too, is an answer of the switch's public calls.
+use characters::NEWLINE;
+use printing::LINE_BYTES;
+use rules::ARRIVAL_WORDS;
+use rules::Answer;
+use rules::EXHALED_WORDS;
+use rules::MOST_RECORDS;
+use rules::MOST_SPEEDUP;
+use rules::PORT_COUNT;
+use rules::RECORD_WORDS;
 use rules::Slot;
 use rules::Switch;
 use switch::Crossbar;
 use text::FirstLine;
 use text::FirstReader;
-use text::NEWLINE;
 use text::SlotReader;
-ghost use Prim.Native.Nat.{ℕ, _+_, _*_, _≤_, _<_};
+ghost use Prim.Native.Nat.{_+_, _*_, _≤_, _<_};
 ghost use mathlib.Core.Path.{_≡_};
-ghost use mathlib.Core.List.{List, _∷_, _++_};
-ghost use lib.ListN.{length, take, drop, replicate};
-ghost use Rattle.text.specs.declared.FirstLine.the-variants.{Numbers};
+ghost use lib.ListN.{length};
+ghost use Rattle.rules.specs.Cells.{mostPorts};
+ghost use Rattle.rules.specs.Answers.{exhaledWidth};
+ghost use Rattle.text.specs.Steps.{firstStart};
+ghost use Rattle.printing.specs.Printed.{lineBytes};
 ghost use Rattle.printing.specs.Prints.{Put};
-ghost use Rattle.text.specs.Lines.{newline};
-ghost use Rattle.text.specs.Steps.{firstStart, slotOf};
 ghost use Rattle.program.specs.declared.Program.the-variants.{First, Within};
-ghost use Rattle.program.specs.Program.{linesOf, cellText, slotText, heldText, endText, lineText, lineAfter, slotsText, firstText};
-ghost use Rattle.program.specs.Coming.{lentWords, stateOf, lineWords, openingFrom, lineFrom, stand, closing, isOver, Sizes, Inside, Turns, Goes};
+ghost use Rattle.program.specs.Program.{cellText, slotText, answerText, heldText, endText};
+ghost use Rattle.program.specs.Lent.{tableWords, arrivalWords, lentWords, endRoom, Inside, Room, Given, LineRoom, LineLent, Blank};
+ghost use Rattle.program.specs.Coming.{stateOf, lineWords, lineOf, closing, isOver, onByte, onNumbers, onNewline, Turns, SlotTurns, PassGoes};
 
 // One record more than the largest table: a longer one that is asked for is refused by the switch itself.
-const MOST_LENT: u32 = 1_025;
+const MOST_LENT: u32 = MOST_RECORDS as u32 + 1;
 
-// The words of that table, and of the arrivals of sixteen inputs: what the caller lends.
-pub const TABLE_WORDS: usize = 5_125;
+// The words of that table, and of the arrivals of all inputs: what the caller lends. `tableWords`, `arrivalWords` and `endRoom` of
+// specs/Lent.antt are the same for contracts.
+pub const TABLE_WORDS: usize = MOST_LENT as usize * RECORD_WORDS;
 
-pub const ARRIVAL_WORDS: usize = 32;
+pub const LINE_WORDS: usize = PORT_COUNT * ARRIVAL_WORDS;
 
-// What one line's end may print: sixteen lines of cells, of at most sixty bytes.
-const ROOM: usize = 1_024;
+// What one line's end may print: a line of a cell for each output.
+const END_ROOM: usize = PORT_COUNT * LINE_BYTES;
+
+// The words of a slot's other two lists, for the largest numbers.
+const MATCH_WORDS: usize = MOST_SPEEDUP as usize * PORT_COUNT;
+
+const EMITTED_WORDS: usize = PORT_COUNT * EXHALED_WORDS;
 
 // A switch after its accepted fresh start, and how many words of the table are its own.
 pub struct Running {
@@ -52,8 +67,7 @@ pub struct Turn {
 
 // The same, and how many bytes of a piece of the input were taken.
 pub struct Pass {
-    pub program: Program,
-    pub at: usize,
+    pub turn: Turn,
     pub next: usize,
 }
 
@@ -84,29 +98,26 @@ impl Program {
         arrivals: &mut [u32],
         out: &mut [u8],
     ) -> Pass
-        requires inside { ⌜ Inside self ⌝ }
-        requires unread { ⌜ from ≤ length (now piece) ⌝ }
-        requires lent { ⌜ (length (now table) ≡ 5125) × (length (now arrivals) ≡ 32) ⌝ }
-        requires room { ⌜ 1024 ≤ length (now out) ⌝ }
-        ensures { λ r. ⌜ Goes (stand self (now (table .entry)) (now (arrivals .entry))) (drop from (now (piece .entry))) (now (out .entry)) 0 (stand (r .program) (now (table .exit)) (now (arrivals .exit))) (drop (r .next) (now (piece .entry))) (now (out .exit)) (r .at) ⌝ }
-        ensures within { λ r. ⌜ (r .next ≤ length (now (piece .entry))) × (r .at ≤ length (now (out .entry))) ⌝ }
+        requires { ⌜ Given self (now piece) from (now table) (now arrivals) (now out) 0 ⌝ }
+        ensures goes { λ r. ⌜
+            PassGoes (length (now (out .entry))) (now (piece .entry)) from 0 self (now (table .entry)) (now (arrivals .entry)) (now (out .entry))
+            r (now (table .exit)) (now (arrivals .exit)) (now (out .exit))
+            ⌝ }
         ensures further { λ r. ⌜ (from < length (now (piece .entry)) → from < r .next) ⌝ }
     {
-        let most = out.len() - ROOM;
+        let most = out.len() - END_ROOM;
         let mut program = self;
         let mut at = 0;
         let mut next = from;
         while next < piece.len() && at <= most {
             let pass = program.advance(piece, next, table, arrivals, out, at);
-            program = pass.program;
-            at = pass.at;
+            let turn = pass.turn;
+            program = turn.program;
+            at = turn.at;
             next = pass.next;
         }
-        Pass {
-            program: program,
-            at: at,
-            next: next,
-        }
+        let turn = Turn { program, at };
+        Pass { turn, next }
     }
 
     // A byte of the first line, or all that a piece has of a slot line.
@@ -119,20 +130,18 @@ impl Program {
         out: &mut [u8],
         at: usize,
     ) -> Pass
-        requires inside { ⌜ Inside self ⌝ }
-        requires unread { ⌜ from < length (now piece) ⌝ }
-        requires lent { ⌜ (length (now table) ≡ 5125) × (length (now arrivals) ≡ 32) ⌝ }
-        requires room { ⌜ at + 1024 ≤ length (now out) ⌝ }
-        ensures { λ r. ⌜ Goes (stand self (now (table .entry)) (now (arrivals .entry))) (drop from (now (piece .entry))) (now (out .entry)) at (stand (r .program) (now (table .exit)) (now (arrivals .exit))) (drop (r .next) (now (piece .entry))) (now (out .exit)) (r .at) ⌝ }
-        ensures within { λ r. ⌜ (from < r .next) × (r .next ≤ length (now (piece .entry))) × (r .at ≤ at + 1024) ⌝ }
+        requires { ⌜ Given self (now piece) (from + 1) (now table) (now arrivals) (now out) at ⌝ }
+        ensures goes { λ r. ⌜
+            PassGoes endRoom (now (piece .entry)) from at self (now (table .entry)) (now (arrivals .entry)) (now (out .entry))
+            r (now (table .exit)) (now (arrivals .exit)) (now (out .exit))
+            ⌝ }
+        ensures further { λ r. ⌜ from < r .next ⌝ }
     {
         match self {
             Program::First(reader) => {
                 let turn = first_step(reader, piece[from], table, out, at);
-                let program = turn.program;
                 Pass {
-                    program: program,
-                    at: turn.at,
+                    turn,
                     next: from + 1,
                 }
             }
@@ -142,21 +151,24 @@ impl Program {
             Program::Within(running, reader) => {
                 running.advance(reader, piece, from, table, arrivals, out, at)
             }
-            Program::Over => Pass {
-                program: Program::Over,
-                at: at,
-                next: piece.len(),
-            },
+            Program::Over => {
+                let turn = Turn {
+                    program: Program::Over,
+                    at,
+                };
+                Pass {
+                    turn,
+                    next: piece.len(),
+                }
+            }
         }
     }
 
     // The end of the input: bytes after the last newline are an unreadable line, and so is a missing first line.
     pub fn finish(self, table: &[u32], out: &mut [u8], at: usize) -> usize
         requires inside { ⌜ Inside self ⌝ }
-        requires lent { ⌜ length (now table) ≡ 5125 ⌝ }
-        requires room { ⌜ at + 1024 ≤ length (now out) ⌝ }
-        ensures within { λ r. ⌜ r ≤ at + 1024 ⌝ }
-        ensures put { λ r. ⌜ Put (now (out .entry)) at (closing self (now (table .entry))) (now (out .exit)) r ⌝ }
+        requires room { ⌜ Room (now table) (now out) at ⌝ }
+        ensures { λ r. ⌜ Put endRoom (now (out .entry)) at (closing self (now (table .entry))) (now (out .exit)) r ⌝ }
     {
         match self {
             Program::First(_) => printing::put_unreadable(out, at),
@@ -169,14 +181,13 @@ impl Program {
 
 // A byte of the first line, or its end.
 fn first_step(reader: FirstReader, byte: u8, table: &mut [u32], out: &mut [u8], at: usize) -> Turn
-    requires lent { ⌜ length (now table) ≡ 5125 ⌝ }
-    requires room { ⌜ at + 1024 ≤ length (now out) ⌝ }
-    ensures { λ r. ⌜ ((ws : List ℕ) → Turns (λ rest. openingFrom reader (linesOf (byte ∷ rest))) (now (out .entry)) at (stand (r .program) (now (table .exit)) ws) (now (out .exit)) (r .at)) ⌝ }
+    requires { ⌜ Room (now table) (now out) at ⌝ }
+    ensures { λ r. ⌜ Turns (onByte reader byte) (now (out .entry)) at (r .program) (now (table .exit)) (now (out .exit)) (r .at) ⌝ }
 {
     if byte != NEWLINE {
         return Turn {
             program: Program::First(reader.step(byte)),
-            at: at,
+            at,
         };
     }
     let FirstLine::Numbers(ports, speedup, records) = reader.finish() else {
@@ -197,15 +208,14 @@ fn begin(
     out: &mut [u8],
     at: usize,
 ) -> Turn
-    requires lent { ⌜ length (now table) ≡ 5125 ⌝ }
-    requires room { ⌜ at + 1024 ≤ length (now out) ⌝ }
-    ensures { λ r. ⌜ ((ws : List ℕ) → Turns (λ rest. firstText (Numbers ports speedup records) (linesOf rest)) (now (out .entry)) at (stand (r .program) (now (table .exit)) ws) (now (out .exit)) (r .at)) ⌝ }
+    requires { ⌜ Room (now table) (now out) at ⌝ }
+    ensures { λ r. ⌜ Turns (onNumbers ports speedup records) (now (out .entry)) at (r .program) (now (table .exit)) (now (out .exit)) (r .at) ⌝ }
 {
     let words = lent_words(records);
     let wanted = Crossbar {
         numbers: Switch {
-            ports: ports,
-            speedup: speedup,
+            ports,
+            speedup,
             next: Slot(0),
         },
     };
@@ -218,10 +228,7 @@ fn begin(
         };
     }
     let crossbar = started.crossbar;
-    let running = Running {
-        crossbar: crossbar,
-        words: words,
-    };
+    let running = Running { crossbar, words };
     Turn {
         program: Program::Between(running),
         at: printing::put_header(out, at),
@@ -232,7 +239,7 @@ fn lent_words(records: u32) -> usize
     ensures { λ r. ⌜ r ≡ lentWords records ⌝ }
 {
     if records < MOST_LENT {
-        (records as usize) * 5
+        (records as usize) * RECORD_WORDS
     } else {
         TABLE_WORDS
     }
@@ -250,32 +257,38 @@ impl Running {
         out: &mut [u8],
         at: usize,
     ) -> Pass
-        requires sizes { ⌜ Sizes self ⌝ }
-        requires unread { ⌜ from < length (now piece) ⌝ }
-        requires lent { ⌜ (length (now table) ≡ 5125) × (length (now arrivals) ≡ 32) ⌝ }
-        requires room { ⌜ at + 1024 ≤ length (now out) ⌝ }
-        ensures { λ r. ⌜ Goes (stand (Within self reader) (now (table .entry)) (now (arrivals .entry))) (drop from (now (piece .entry))) (now (out .entry)) at (stand (r .program) (now (table .exit)) (now (arrivals .exit))) (drop (r .next) (now (piece .entry))) (now (out .exit)) (r .at) ⌝ }
-        ensures within { λ r. ⌜ (from < r .next) × (r .next ≤ length (now (piece .entry))) × (r .at ≤ at + 1024) ⌝ }
+        requires { ⌜ Given (Within self reader) (now piece) (from + 1) (now table) (now arrivals) (now out) at ⌝ }
+        ensures goes { λ r. ⌜
+            PassGoes endRoom (now (piece .entry)) from at (Within self reader) (now (table .entry)) (now (arrivals .entry)) (now (out .entry))
+            r (now (table .exit)) (now (arrivals .exit)) (now (out .exit))
+            ⌝ }
+        ensures further { λ r. ⌜ from < r .next ⌝ }
     {
-        let crossbar = self.crossbar;
-        let width = (crossbar.numbers.ports as usize) * 2;
+        let width = self.line_words();
         let part = reader.read(piece, from, &mut arrivals[..width]);
         let read = part.reader;
         let next = part.next;
         if next == piece.len() {
-            return Pass {
+            let turn = Turn {
                 program: Program::Within(self, read),
-                at: at,
-                next: next,
+                at,
             };
+            return Pass { turn, next };
         }
         let turn = self.end_line(read, table, arrivals, out, at);
-        let program = turn.program;
         Pass {
-            program: program,
-            at: turn.at,
+            turn,
             next: next + 1,
         }
+    }
+
+    // How many words of the arrivals a slot line is read into.
+    fn line_words(self) -> usize
+        requires { ⌜ self .crossbar .numbers .ports ≤ mostPorts ⌝ }
+        ensures { λ r. ⌜ (r ≡ lineWords self) × (r ≤ arrivalWords) ⌝ }
+    {
+        let crossbar = self.crossbar;
+        (crossbar.numbers.ports as usize) * ARRIVAL_WORDS
     }
 
     // A slot line's newline.
@@ -287,13 +300,13 @@ impl Running {
         out: &mut [u8],
         at: usize,
     ) -> Turn
-        requires sizes { ⌜ Sizes self ⌝ }
-        requires lent { ⌜ (length (now table) ≡ 5125) × (length (now arrivals) ≡ 32) ⌝ }
-        requires room { ⌜ at + 1024 ≤ length (now out) ⌝ }
-        ensures { λ r. ⌜ Turns (λ rest. lineFrom (stateOf self (now (table .entry))) (slotOf reader (take (lineWords self) (now (arrivals .entry)))) (linesOf (newline ∷ rest))) (now (out .entry)) at (stand (r .program) (now (table .exit)) (now (arrivals .exit))) (now (out .exit)) (r .at) ⌝ }
+        requires { ⌜ LineLent self (now table) (now arrivals) (now out) at ⌝ }
+        ensures { λ r. ⌜
+            Turns (onNewline (stateOf self (now (table .entry))) (lineOf self reader (now (arrivals .entry)))) (now (out .entry)) at
+            (r .program) (now (table .exit)) (now (out .exit)) (r .at)
+            ⌝ }
     {
-        let crossbar = self.crossbar;
-        let width = (crossbar.numbers.ports as usize) * 2;
+        let width = self.line_words();
         if !reader.finish(&mut arrivals[..width]) {
             return Turn {
                 program: Program::Over,
@@ -305,18 +318,16 @@ impl Running {
 
     // One slot with a line's words, and with two lists of the lengths that go with the numbers.
     fn slot(self, table: &mut [u32], arrivals: &[u32], out: &mut [u8], at: usize) -> Turn
-        requires sizes { ⌜ Sizes self ⌝ }
-        requires lent { ⌜ length (now table) ≡ 5125 ⌝ }
-        requires room { ⌜ at + 1024 ≤ length (now out) ⌝ }
-        ensures { λ r. ⌜ ((ws : List ℕ) → Turns (λ rest. lineText (stateOf self (now (table .entry))) (now (arrivals .entry)) ++ slotsText (lineAfter (stateOf self (now (table .entry))) (now (arrivals .entry))) (linesOf rest)) (now (out .entry)) at (stand (r .program) (now (table .exit)) ws) (now (out .exit)) (r .at)) ⌝ }
+        requires { ⌜ LineRoom self (now table) (now out) at ⌝ }
+        ensures { λ r. ⌜ SlotTurns self (now (table .entry)) (now (arrivals .entry)) (now (out .entry)) at r (now (table .exit)) (now (out .exit)) ⌝ }
     {
-        let mut matches = [0u32; 128];
-        let mut exhaled = [0u32; 64];
+        let mut matches = [0u32; MATCH_WORDS];
+        let mut exhaled = [0u32; EMITTED_WORDS];
         let crossbar = self.crossbar;
         let ports = crossbar.numbers.ports as usize;
         let speedup = crossbar.numbers.speedup as usize;
         let moved = speedup * ports;
-        let emitted = ports * 4;
+        let emitted = ports * EXHALED_WORDS;
         self.run(
             table,
             arrivals,
@@ -337,63 +348,63 @@ impl Running {
         out: &mut [u8],
         at: usize,
     ) -> Turn
-        requires sizes { ⌜ Sizes self ⌝ }
-        requires lent { ⌜ length (now table) ≡ 5125 ⌝ }
-        requires lists { ⌜ (now matches ≡ replicate (self .crossbar .numbers .speedup * self .crossbar .numbers .ports) 0) × (now exhaled ≡ replicate (self .crossbar .numbers .ports * 4) 0) ⌝ }
-        requires room { ⌜ at + 1024 ≤ length (now out) ⌝ }
-        ensures { λ r. ⌜ ((ws : List ℕ) → Turns (λ rest. lineText (stateOf self (now (table .entry))) (now (arrivals .entry)) ++ slotsText (lineAfter (stateOf self (now (table .entry))) (now (arrivals .entry))) (linesOf rest)) (now (out .entry)) at (stand (r .program) (now (table .exit)) ws) (now (out .exit)) (r .at)) ⌝ }
+        requires lent { ⌜ LineRoom self (now table) (now out) at ⌝ }
+        requires lists { ⌜ Blank self (now matches) (now exhaled) ⌝ }
+        ensures { λ r. ⌜ SlotTurns self (now (table .entry)) (now (arrivals .entry)) (now (out .entry)) at r (now (table .exit)) (now (out .exit)) ⌝ }
     {
         let crossbar = self.crossbar;
         let words = self.words;
-        let numbers = crossbar.numbers;
         let outcome = crossbar.slot(&mut table[..words], arrivals, matches, exhaled);
-        let after = outcome.crossbar;
-        let next = Running {
-            crossbar: after,
-            words: words,
-        };
         let answer = outcome.answer;
-        if !answer.is_done() {
-            return Turn {
-                program: Program::Between(next),
-                at: printing::put_refused(out, at, answer.number()),
-            };
-        }
+        let end = put_outcome(answer, crossbar.numbers, exhaled, out, at);
+        let after = outcome.crossbar;
+        let running = Running {
+            crossbar: after,
+            words,
+        };
         Turn {
-            program: Program::Between(next),
-            at: put_cells(out, at, numbers.next.0, numbers.ports, exhaled),
+            program: Program::Between(running),
+            at: end,
         }
     }
 
     // The last two lines where a line was not read.
     fn put_end(self, table: &[u32], out: &mut [u8], at: usize) -> usize
-        requires words { ⌜ (self .words ≤ length (now table)) × (self .words ≤ 5125) ⌝ }
-        requires room { ⌜ at + 120 ≤ length (now out) ⌝ }
-        ensures within { λ r. ⌜ r ≤ at + 120 ⌝ }
-        ensures put { λ r. ⌜ Put (now (out .entry)) at (endText (stateOf self (now (table .entry)))) (now (out .exit)) r ⌝ }
+        requires { ⌜ LineRoom self (now table) (now out) at ⌝ }
+        ensures { λ r. ⌜ Put endRoom (now (out .entry)) at (endText (stateOf self (now (table .entry)))) (now (out .exit)) r ⌝ }
     {
         let next = printing::put_unreadable(out, at);
         self.put_held(table, out, next)
     }
 
     fn put_held(self, table: &[u32], out: &mut [u8], at: usize) -> usize
-        requires words { ⌜ (self .words ≤ length (now table)) × (self .words ≤ 5125) ⌝ }
-        requires room { ⌜ at + 60 ≤ length (now out) ⌝ }
-        ensures within { λ r. ⌜ r ≤ at + 60 ⌝ }
-        ensures put { λ r. ⌜ Put (now (out .entry)) at (heldText (stateOf self (now (table .entry)))) (now (out .exit)) r ⌝ }
+        requires words { ⌜ (self .words ≤ length (now table)) × (length (now table) ≤ tableWords) ⌝ }
+        requires room { ⌜ at + lineBytes ≤ length (now out) ⌝ }
+        ensures { λ r. ⌜ Put lineBytes (now (out .entry)) at (heldText (stateOf self (now (table .entry)))) (now (out .exit)) r ⌝ }
     {
         let words = self.words;
-        let live = table::live(&table[..words]);
+        let live = switch::held(&table[..words]);
         printing::put_held(out, at, live as u32)
     }
 }
 
+// What a slot prints: the cells that it emitted, or that it was refused.
+fn put_outcome(answer: Answer, numbers: Switch, exhaled: &[u32], out: &mut [u8], at: usize) -> usize
+    requires entries { ⌜ (numbers .ports ≤ mostPorts) × (numbers .ports * exhaledWidth ≤ length (now exhaled)) ⌝ }
+    requires room { ⌜ at + endRoom ≤ length (now out) ⌝ }
+    ensures { λ r. ⌜ Put endRoom (now (out .entry)) at (answerText numbers answer (now (exhaled .entry))) (now (out .exit)) r ⌝ }
+{
+    if !answer.is_done() {
+        return printing::put_refused(out, at, answer.number());
+    }
+    put_cells(out, at, numbers.next.0, numbers.ports, exhaled)
+}
+
 // The emitted cells of a slot, by output.
 fn put_cells(out: &mut [u8], at: usize, slot: u32, ports: u32, exhaled: &[u32]) -> usize
-    requires { ⌜ (ports ≤ 16) × (ports * 4 ≤ length (now exhaled)) ⌝ }
-    requires room { ⌜ at + 960 ≤ length (now out) ⌝ }
-    ensures within { λ r. ⌜ r ≤ at + 960 ⌝ }
-    ensures put { λ r. ⌜ Put (now (out .entry)) at (slotText slot ports (now (exhaled .entry))) (now (out .exit)) r ⌝ }
+    requires entries { ⌜ (ports ≤ mostPorts) × (ports * exhaledWidth ≤ length (now exhaled)) ⌝ }
+    requires room { ⌜ at + endRoom ≤ length (now out) ⌝ }
+    ensures { λ r. ⌜ Put endRoom (now (out .entry)) at (slotText slot ports (now (exhaled .entry))) (now (out .exit)) r ⌝ }
 {
     let mut next = at;
     let mut output = 0;
@@ -404,14 +415,13 @@ fn put_cells(out: &mut [u8], at: usize, slot: u32, ports: u32, exhaled: &[u32]) 
     next
 }
 
-// What one output emitted, if it did.
+// What one output emitted, if it did: an entry says that in its first word.
 fn put_output(out: &mut [u8], at: usize, slot: u32, output: u32, exhaled: &[u32]) -> usize
-    requires { ⌜ output * 4 + 4 ≤ length (now exhaled) ⌝ }
-    requires room { ⌜ at + 60 ≤ length (now out) ⌝ }
-    ensures within { λ r. ⌜ r ≤ at + 60 ⌝ }
-    ensures put { λ r. ⌜ Put (now (out .entry)) at (cellText slot (now (exhaled .entry)) output) (now (out .exit)) r ⌝ }
+    requires entry { ⌜ output * exhaledWidth + exhaledWidth ≤ length (now exhaled) ⌝ }
+    requires room { ⌜ at + lineBytes ≤ length (now out) ⌝ }
+    ensures { λ r. ⌜ Put lineBytes (now (out .entry)) at (cellText slot (now (exhaled .entry)) output) (now (out .exit)) r ⌝ }
 {
-    let word = (output as usize) * 4;
+    let word = (output as usize) * EXHALED_WORDS;
     if exhaled[word] == 0 {
         return at;
     }
@@ -420,8 +430,6 @@ fn put_output(out: &mut [u8], at: usize, slot: u32, output: u32, exhaled: &[u32]
         at,
         slot,
         output,
-        exhaled[word + 1],
-        exhaled[word + 2],
-        exhaled[word + 3],
+        &exhaled[word + 1..word + EXHALED_WORDS],
     )
 }

@@ -14,7 +14,8 @@ use Rattle.text.specs.declared.Number.the-variants.{Empty, Value, NoNumb
 use Rattle.text.specs.declared.Field.the-variants.{Start, Dash, Output, Tag, NoField}
 use Rattle.text.specs.declared.Arrival.{Arrival}
 use Rattle.text.specs.declared.Arrival.the-variants.{Words, NoArrival}
-use Rattle.text.specs.Lines.{dash, colon, ahead, cut, isDigit, value, isNumber, largestOutput, isOutput, pair, arrival}
+use Rattle.characters.specs.Characters.{dash, colon, isDigit, value}
+use Rattle.text.specs.Lines.{prepended, cut, isNumber, largestOutput, isOutput, outputTag, fieldArrival}
 use Rattle.text.specs.Steps.{grown, numberStep, valueOf, mayLead, colonStep, outputStep, fieldStep, tagEnd, fieldEnd}
 use Rattle.text.specs.Numbers.{none-stays, number-is, number-value}
 
@@ -24,7 +25,7 @@ unfolding cut
 cut-some s [] h = cons≢nil h
 cut-some s (b ∷ f) h = go (eqb b s) (cut s f) h
   where
-    go : (t : Bool) (ps : List (List ℕ)) → cond t ([] ∷ ps) (ahead b ps) ≡ [] → ⊥
+    go : (t : Bool) (ps : List (List ℕ)) → cond t ([] ∷ ps) (prepended b ps) ≡ [] → ⊥
     go true ps k = cons≢nil k
     go false [] k = cons≢nil k
     go false (p ∷ ps) k = cons≢nil k
@@ -62,7 +63,7 @@ tag-law w n [] = refl
 tag-law w n (b ∷ f) = go (eqb b colon) refl (cut colon f) (cut-some colon f) (tag-law w (numberStep n b) f)
   where
     go : (t : Bool) → eqb b colon ≡ t → (ps : List (List ℕ)) → (ps ≡ [] → ⊥) → tagEnd w (fold numberStep (numberStep n b) f) ≡ tagFrom w (numberStep n b) ps
-        → tagEnd w (fold numberStep (numberStep n b) f) ≡ tagFrom w n (cond t ([] ∷ ps) (ahead b ps))
+        → tagEnd w (fold numberStep (numberStep n b) f) ≡ tagFrom w n (cond t ([] ∷ ps) (prepended b ps))
     go t e [] i rec = absurd (i refl)
     go true e (p ∷ ps) i rec = rw (eqb-true b colon e, colon-no-digit n, none-stays f)
     go false e (p ∷ []) i rec = rec
@@ -75,11 +76,12 @@ no-either false = refl
 output-law : (n : Number) (f : List ℕ) → fieldEnd (fold fieldStep (Output n) f) ≡ pairFrom n (cut colon f)
 unfolding fold cut fieldStep outputStep colonStep
 output-law n [] = no-either (mayLead n)
-output-law n (b ∷ f) = go (eqb b colon) (cut colon f) (cut-some colon f) (output-law (numberStep n b) f) (λ w. ap fieldEnd (tag-steps w Empty f) ∙ tag-law w Empty f)
+output-law n (b ∷ f) =
+    go (eqb b colon) (cut colon f) (cut-some colon f) (output-law (numberStep n b) f) (λ w. ap fieldEnd (tag-steps w Empty f) ∙ tag-law w Empty f)
   where
     go : (t : Bool) (ps : List (List ℕ)) → (ps ≡ [] → ⊥) → fieldEnd (fold fieldStep (Output (numberStep n b)) f) ≡ pairFrom (numberStep n b) ps
         → ((w : ℕ) → fieldEnd (fold fieldStep (Tag w Empty) f) ≡ tagFrom w Empty ps)
-        → fieldEnd (fold fieldStep (cond t (colonStep n) (Output (numberStep n b))) f) ≡ pairFrom n (cond t ([] ∷ ps) (ahead b ps))
+        → fieldEnd (fold fieldStep (cond t (colonStep n) (Output (numberStep n b))) f) ≡ pairFrom n (cond t ([] ∷ ps) (prepended b ps))
     go true ps i rec tag = led (mayLead n)
       where
         led : (m : Bool) → fieldEnd (fold fieldStep (cond m (Tag (valueOf n + 1) Empty) NoField) f) ≡ cond m (tagFrom (valueOf n + 1) Empty ps) NoArrival
@@ -109,25 +111,27 @@ tag-end-is w t = rw (number-is t) (go (isNumber t) refl)
     go true e = rw (number-value t e)
     go false e = refl
 
-pair-is : (ps : List (List ℕ)) → pairFrom Empty ps ≡ pair ps
+pair-is : (ps : List (List ℕ)) → pairFrom Empty ps ≡ outputTag ps
 pair-is [] = refl
 pair-is (o ∷ []) = sym (no-either (mayLead (fold numberStep Empty o)))
 pair-is (o ∷ (t ∷ [])) = rw (leads-is o) (go (isOutput o) refl)
   where
-    go : (m : Bool) → isOutput o ≡ m → cond m (tagEnd (valueOf (fold numberStep Empty o) + 1) (fold numberStep Empty t)) NoArrival ≡ cond (m && isNumber t) (Words (value o + 1) (value t)) NoArrival
+    go : (m : Bool) → isOutput o ≡ m
+        → cond m (tagEnd (valueOf (fold numberStep Empty o) + 1) (fold numberStep Empty t)) NoArrival
+        ≡ cond (m && isNumber t) (Words (value o + 1) (value t)) NoArrival
     go true e = rw (output-value o e) (tag-end-is (value o + 1) t)
     go false e = refl
 pair-is (o ∷ (t ∷ (x ∷ xs))) = sym (no-either (mayLead (fold numberStep Empty o)))
 
 -- what begins with a byte that is no digit is no pair
-no-pair : (b : ℕ) (ps : List (List ℕ)) → No (isDigit b) → NoArrival ≡ pair (ahead b ps)
+no-pair : (b : ℕ) (ps : List (List ℕ)) → No (isDigit b) → NoArrival ≡ outputTag (prepended b ps)
 unfolding isOutput isNumber each
 no-pair b [] h = refl
 no-pair b (o ∷ []) h = refl
 no-pair b (o ∷ (t ∷ [])) h = rw h
 no-pair b (o ∷ (t ∷ (x ∷ xs))) h = refl
 
-cut-other : (b : ℕ) (f : List ℕ) → b ≡ dash → cut colon (b ∷ f) ≡ ahead b (cut colon f)
+cut-other : (b : ℕ) (f : List ℕ) → b ≡ dash → cut colon (b ∷ f) ≡ prepended b (cut colon f)
 unfolding cut
 cut-other b f e = rw e
 
@@ -135,16 +139,16 @@ dash-no-digit : (b : ℕ) → eqb b dash ≡ true → isDigit b ≡ false
 unfolding isDigit
 dash-no-digit b e = rw (eqb-true b dash e)
 
-pub field-law : (f : List ℕ) → fieldEnd (fold fieldStep Start f) ≡ arrival f
-unfolding fold fieldStep cut arrival
+pub field-law : (f : List ℕ) → fieldEnd (fold fieldStep Start f) ≡ fieldArrival f
+unfolding fold fieldStep cut fieldArrival
 field-law [] = refl
 field-law (b ∷ []) = go (eqb b dash) refl
   where
-    go : (t : Bool) → eqb b dash ≡ t → fieldEnd (cond t Dash (outputStep Empty b)) ≡ cond t (Words 0 0) (pair (cut colon (b ∷ [])))
+    go : (t : Bool) → eqb b dash ≡ t → fieldEnd (cond t Dash (outputStep Empty b)) ≡ cond t (Words 0 0) (outputTag (cut colon (b ∷ [])))
     go true e = refl
     go false e = output-law Empty (b ∷ []) ∙ pair-is (cut colon (b ∷ []))
 field-law (b ∷ (c ∷ f)) = go (eqb b dash) refl
   where
-    go : (t : Bool) → eqb b dash ≡ t → fieldEnd (fold fieldStep (cond t Dash (outputStep Empty b)) (c ∷ f)) ≡ pair (cut colon (b ∷ (c ∷ f)))
-    go true e = ap fieldEnd (broken-stays f) ∙ no-pair b (cut colon (c ∷ f)) (dash-no-digit b e) ∙ ap pair (sym (cut-other b (c ∷ f) (eqb-true b dash e)))
+    go : (t : Bool) → eqb b dash ≡ t → fieldEnd (fold fieldStep (cond t Dash (outputStep Empty b)) (c ∷ f)) ≡ outputTag (cut colon (b ∷ (c ∷ f)))
+    go true e = ap fieldEnd (broken-stays f) ∙ no-pair b (cut colon (c ∷ f)) (dash-no-digit b e) ∙ ap outputTag (sym (cut-other b (c ∷ f) (eqb-true b dash e)))
     go false e = output-law Empty (b ∷ (c ∷ f)) ∙ pair-is (cut colon (b ∷ (c ∷ f)))

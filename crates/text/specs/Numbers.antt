@@ -11,12 +11,13 @@ use borrow.Author.Tests.{leb-true, leb-false, le-leb, lt-leb}
 use Rattle.laws.specs.Folds.{fold, each}
 use Rattle.text.specs.declared.Number.{Number}
 use Rattle.text.specs.declared.Number.the-variants.{Empty, Value, NoNumber}
-use Rattle.text.specs.Lines.{isDigit, push, value, largest, isEmpty, isNumber}
+use Rattle.characters.specs.Characters.{isDigit, push, value}
+use Rattle.text.specs.Lines.{largestNumber, isEmpty, isNumber}
 use Rattle.text.specs.Steps.{grown, numberStep, isValue, valueOf}
 
 -- a number is what some more digits come to, or none
 abbrev pub sized : Bool → ℕ → Number
-sized digits v = cond (digits && leb v largest) (Value v) NoNumber
+sized digits v = cond (digits && leb v largestNumber) (Value v) NoNumber
 
 pub none-stays : (f : List ℕ) → fold numberStep NoNumber f ≡ NoNumber
 unfolding fold
@@ -32,17 +33,18 @@ unfolding fold push
 push-grows v [] = omega arith
 push-grows v (b ∷ f) = omega (arith, push-grows (push v b) f)
 
-pub value-steps : (v : ℕ) (f : List ℕ) → v ≤ largest → fold numberStep (Value v) f ≡ sized (each isDigit f) (fold push v f)
+pub value-steps : (v : ℕ) (f : List ℕ) → v ≤ largestNumber → fold numberStep (Value v) f ≡ sized (each isDigit f) (fold push v f)
 unfolding fold each
-value-steps v [] h = rw (le-leb v largest h)
-value-steps v (b ∷ f) h = go (value-steps (push v b) f) (isDigit b) refl (leb (push v b) largest) refl
+value-steps v [] h = rw (le-leb v largestNumber h)
+value-steps v (b ∷ f) h = go (value-steps (push v b) f) (isDigit b) refl (leb (push v b) largestNumber) refl
   where
-    go : (push v b ≤ largest → fold numberStep (Value (push v b)) f ≡ sized (each isDigit f) (fold push (push v b) f))
-        → (d : Bool) → isDigit b ≡ d → (s : Bool) → leb (push v b) largest ≡ s
+    go : (push v b ≤ largestNumber → fold numberStep (Value (push v b)) f ≡ sized (each isDigit f) (fold push (push v b) f))
+        → (d : Bool) → isDigit b ≡ d → (s : Bool) → leb (push v b) largestNumber ≡ s
         → fold numberStep (grown v b) f ≡ sized (isDigit b && each isDigit f) (fold push (push v b) f)
     go rec true e true i = rw (grown-is, e, i) (rec (leb-true _ _ i))
     go rec true e false i =
-        rw (grown-is, e, i, none-stays f, lt-leb (fold push (push v b) f) largest (omega (arith, push-grows (push v b) f, leb-false (push v b) largest i)), and-false (each isDigit f))
+        let l = lt-leb (fold push (push v b) f) largestNumber (omega (arith, push-grows (push v b) f, leb-false (push v b) largestNumber i)) in
+        rw (grown-is, e, i, none-stays f, l, and-false (each isDigit f))
     go rec false e s i = rw (grown-is, e, none-stays f)
 
 -- what a whole field's steps come to
@@ -53,7 +55,7 @@ number-steps (b ∷ f) = value-steps 0 (b ∷ f) (omega arith)
 
 pub number-is : (f : List ℕ) → isValue (fold numberStep Empty f) ≡ isNumber f
 unfolding isNumber
-number-is f = rw (number-steps f) (go (isEmpty f) (each isDigit f && leb (value f) largest))
+number-is f = rw (number-steps f) (go (isEmpty f) (each isDigit f && leb (value f) largestNumber))
   where
     go : (e s : Bool) → isValue (cond e Empty (cond s (Value (value f)) NoNumber)) ≡ (not e && s)
     go true s = refl
@@ -62,7 +64,7 @@ number-is f = rw (number-steps f) (go (isEmpty f) (each isDigit f && leb (value 
 
 pub number-value : (f : List ℕ) → So (isNumber f) → valueOf (fold numberStep Empty f) ≡ value f
 unfolding isNumber
-number-value f h = rw (number-steps f) (go (isEmpty f) (each isDigit f && leb (value f) largest) h)
+number-value f h = rw (number-steps f) (go (isEmpty f) (each isDigit f && leb (value f) largestNumber) h)
   where
     go : (e s : Bool) → So (not e && s) → valueOf (cond e Empty (cond s (Value (value f)) NoNumber)) ≡ value f
     go true s k = absurd (false≢true k)

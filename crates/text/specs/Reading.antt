@@ -6,13 +6,13 @@ use mathlib.Core.Path.{_≡_, refl, sym, ap, _∙_}
 use mathlib.Core.Bool.{Bool, So, true, false, cond, _&&_, and-false, false≢true}
 use mathlib.Core.List.{List, [], _∷_, _++_, append-assoc, append-nil, flatMap}
 use native.Mathlib.Omega.{arith}
-use native.Mathlib.Numerals.{add-one}
 use lib.Dec.{leb, eqb}
-use lib.ListN.{length, take, set, length-set}
-use lib.Seq.{take-suc-set, take-all}
+use lib.ListN.{length, take, drop, length-append}
+use lib.Seq.{length-take-le, take-at, take-all, sets, length-sets, sets-eq}
 use borrow.Author.Tests.{leb-true, leb-false, eqb-true, eq-eqb, ne-eqb}
 use Rattle.laws.specs.Tests.{both, join, same-test}
 use Rattle.laws.specs.Folds.{fold, each}
+use Rattle.rules.specs.Answers.{arrivalWidth}
 use Rattle.text.specs.declared.Number.{Number}
 use Rattle.text.specs.declared.Number.the-variants.{Empty}
 use Rattle.text.specs.declared.Field.the-variants.{Start, NoField}
@@ -20,8 +20,10 @@ use Rattle.text.specs.declared.Arrival.{Arrival}
 use Rattle.text.specs.declared.Arrival.the-variants.{Words, NoArrival}
 use Rattle.text.specs.declared.FirstLine.{FirstLine}
 use Rattle.text.specs.declared.FirstLine.the-variants.{Numbers, Unreadable}
-use Rattle.text.specs.Lines.{space, ahead, cut, fields, value, isNumber, three, firstLine, arrival, isRead, wordsOf, isSlotLine, slotWords}
-use Rattle.text.specs.Steps.{numberStep, valueOf, fieldStep, Slot, slot, slotStart, written, endField, slotStep, isWhole, Finished, first, firstStart, oneMore, firstStep, threeOf, firstAnswer}
+use Rattle.characters.specs.Characters.{space, value}
+use Rattle.text.specs.Lines.{prepended, cut, lineFields, isNumber, three, firstLine, fieldArrival, isRead, fieldWords, isSlotLine, slotLineWords}
+use Rattle.text.specs.Steps.{numberStep, valueOf, fieldStep, LineState, lineState, slotStart, written, endField, slotStep, isComplete, Finished}
+use Rattle.text.specs.Steps.{first, firstStart, oneMore, firstStep, threeOf, firstAnswer}
 use Rattle.text.specs.Numbers.{number-is, number-value}
 use Rattle.text.specs.Fields.{cut-some, broken-stays, field-law}
 
@@ -42,7 +44,8 @@ first-steps k n s r (b ∷ line) =
     go : (t : Bool) (ps : List (List ℕ)) → (ps ≡ [] → ⊥)
         → firstAnswer (fold firstStep (first (oneMore k) s r Empty) line) ≡ after (oneMore k) s r Empty ps
         → firstAnswer (fold firstStep (first k n s (numberStep r b)) line) ≡ after k n s (numberStep r b) ps
-        → firstAnswer (fold firstStep (cond t (first (oneMore k) s r Empty) (first k n s (numberStep r b))) line) ≡ after k n s r (cond t ([] ∷ ps) (ahead b ps))
+        → firstAnswer (fold firstStep (cond t (first (oneMore k) s r Empty) (first k n s (numberStep r b))) line)
+        ≡ after k n s r (cond t ([] ∷ ps) (prepended b ps))
     go t [] i x y = absurd (i refl)
     go true (p ∷ ps) i x y = x
     go false (p ∷ []) i x y = y
@@ -78,100 +81,105 @@ after-is (n ∷ (s ∷ (k ∷ (x ∷ xs)))) = too-many _ _ Empty (x ∷ xs)
 -- THE LAW of a first line
 pub first-law : (line : List ℕ) → firstAnswer (fold firstStep firstStart line) ≡ firstLine line
 unfolding firstLine
-first-law line = first-steps 0 Empty Empty Empty line ∙ after-is (fields line)
+first-law line = first-steps 0 Empty Empty Empty line ∙ after-is (lineFields line)
 
 -- a slot line ---------------------------------------------------------------------------------
 
 -- a whole field, to its end
-abbrev takeField : Slot → List ℕ → Slot
-takeField s f = endField (slot (s .reader .at) (fold fieldStep (s .reader .field) f) (s .words))
+abbrev takeField : LineState → List ℕ → LineState
+takeField s f = endField (lineState (s .reader .at) (fold fieldStep (s .reader .field) f) (s .words))
 
-slot-steps : (s : Slot) (line : List ℕ) → endField (fold slotStep s line) ≡ fold takeField s (cut space line)
+slot-steps : (s : LineState) (line : List ℕ) → endField (fold slotStep s line) ≡ fold takeField s (cut space line)
 unfolding fold cut slotStep
 slot-steps s [] = refl
 slot-steps s (b ∷ line) = go (eqb b space) (cut space line) (cut-some space line) (slot-steps (endField s) line) (slot-steps stepped line)
   where
-    stepped : Slot
-    stepped = slot (s .reader .at) (fieldStep (s .reader .field) b) (s .words)
+    stepped : LineState
+    stepped = lineState (s .reader .at) (fieldStep (s .reader .field) b) (s .words)
 
     go : (t : Bool) (ps : List (List ℕ)) → (ps ≡ [] → ⊥)
         → endField (fold slotStep (endField s) line) ≡ fold takeField (endField s) ps → endField (fold slotStep stepped line) ≡ fold takeField stepped ps
-        → endField (fold slotStep (cond t (endField s) stepped) line) ≡ fold takeField s (cond t ([] ∷ ps) (ahead b ps))
+        → endField (fold slotStep (cond t (endField s) stepped) line) ≡ fold takeField s (cond t ([] ∷ ps) (prepended b ps))
     go t [] i x y = absurd (i refl)
     go true (p ∷ ps) i x y = x
     go false (p ∷ ps) i x y = y
 
-broken-line : (at : ℕ) (ws : List ℕ) (fs : List (List ℕ)) → fold takeField (slot at NoField ws) fs ≡ slot at NoField ws
+broken-line : (at : ℕ) (ws : List ℕ) (fs : List (List ℕ)) → fold takeField (lineState at NoField ws) fs ≡ lineState at NoField ws
 unfolding fold endField written
 broken-line at ws [] = refl
 broken-line at ws (f ∷ fs) = rw (broken-stays f) (broken-line at ws fs)
 
--- two words stored at `at` stand behind what stood before it
-take-two : (ws : List ℕ) (at a b : ℕ) → at + 2 ≤ length ws → take (at + 2) (set (set ws at a) (at + 1) b) ≡ take at ws ++ (a ∷ b ∷ [])
-take-two ws at a b h =
-    ap (λ (n : ℕ). take n (set (set ws at a) (at + 1) b)) {x = at + 2} {y = suc (at + 1)} (omega arith)
-    ∙ take-suc-set (set ws at a) (at + 1) b (simp length-set (omega arith))
-    ∙ ap (λ (l : List ℕ). l ++ (b ∷ [])) (ap (λ (n : ℕ). take n (set ws at a)) (add-one at) ∙ take-suc-set ws at a (omega arith))
-    ∙ append-assoc (take at ws) (a ∷ []) (b ∷ [])
+-- words stored at `at` stand behind what stood before it
+take-sets : (ws : List ℕ) (at : ℕ) (vs : List ℕ) → at + length vs ≤ length ws → take (at + length vs) (sets ws at vs) ≡ take at ws ++ vs
+take-sets ws at vs h =
+    ap (take (at + length vs)) (sets-eq vs ws at h)
+    ∙ take-at (take at ws ++ vs) (drop (at + length vs) ws) (at + length vs)
+    (length-append (take at ws) vs ∙ ap (λ (n : ℕ). n + length vs) (length-take-le at ws (omega arith)))
 
 abbrev good : List (List ℕ) → Bool
-good fs = each (λ f. isRead (arrival f)) fs
+good fs = each (λ f. isRead (fieldArrival f)) fs
 
 abbrev meant : List (List ℕ) → List ℕ
-meant fs = flatMap (λ f. wordsOf (arrival f)) fs
+meant fs = flatMap (λ f. fieldWords (fieldArrival f)) fs
 
 -- what the fields from `at` on come to
-record Comes (at : ℕ) (ws : List ℕ) (fs : List (List ℕ)) (s : Slot) : Type 0 where
-  whole : isWhole s ≡ (good fs && eqb (at + length fs * 2) (length ws))
+record Comes (at : ℕ) (ws : List ℕ) (fs : List (List ℕ)) (s : LineState) : Type 0 where
+  whole : isComplete s ≡ (good fs && eqb (at + length fs * arrivalWidth) (length ws))
   size : length (s .words) ≡ length ws
-  words : So (isWhole s) → s .words ≡ take at ws ++ meant fs
+  words : So (isComplete s) → s .words ≡ take at ws ++ meant fs
 
-broken-comes : (at : ℕ) (ws : List ℕ) (fs gs : List (List ℕ)) → (good gs && eqb (at + length gs * 2) (length ws)) ≡ false → Comes at ws gs (fold takeField (slot at NoField ws) fs)
-unfolding isWhole
+broken-comes : (at : ℕ) (ws : List ℕ) (fs gs : List (List ℕ)) → (good gs && eqb (at + length gs * arrivalWidth) (length ws)) ≡ false
+    → Comes at ws gs (fold takeField (lineState at NoField ws) fs)
+unfolding isComplete
 broken-comes at ws fs gs h = rw (broken-line at ws fs) (record { whole = sym h; size = refl; words = λ k. absurd (false≢true k) })
 
 -- a field that says nothing, or one that has no room, breaks the line; another is followed by the rest
-none-comes : (at : ℕ) (ws f : List ℕ) (fs : List (List ℕ)) → arrival f ≡ NoArrival → Comes at ws (f ∷ fs) (fold takeField (written NoArrival at ws) fs)
+none-comes : (at : ℕ) (ws f : List ℕ) (fs : List (List ℕ)) → fieldArrival f ≡ NoArrival → Comes at ws (f ∷ fs) (fold takeField (written NoArrival at ws) fs)
 unfolding written each
 none-comes at ws f fs e = broken-comes at ws fs (f ∷ fs) (rw e)
 
-words-come : (at : ℕ) (ws f : List ℕ) (fs : List (List ℕ)) (a b : ℕ) → arrival f ≡ Words a b
-    → Comes (at + 2) (set (set ws at a) (at + 1) b) fs (fold takeField (slot (at + 2) Start (set (set ws at a) (at + 1) b)) fs)
+words-come : (at : ℕ) (ws f : List ℕ) (fs : List (List ℕ)) (a b : ℕ) → fieldArrival f ≡ Words a b
+    → Comes (at + arrivalWidth) (sets ws at (a ∷ b ∷ [])) fs (fold takeField (lineState (at + arrivalWidth) Start (sets ws at (a ∷ b ∷ []))) fs)
     → Comes at ws (f ∷ fs) (fold takeField (written (Words a b) at ws) fs)
 unfolding written each flatMap
-words-come at ws f fs a b e x = go (leb (at + 2) (length ws)) refl
+words-come at ws f fs a b e x = go (leb (at + arrivalWidth) (length ws)) refl
   where
-    size : length (set (set ws at a) (at + 1) b) ≡ length ws
-    size = simp length-set
+    size : length (sets ws at (a ∷ b ∷ [])) ≡ length ws
+    size = length-sets ws at (a ∷ b ∷ [])
 
-    go : (t : Bool) → leb (at + 2) (length ws) ≡ t → Comes at ws (f ∷ fs) (fold takeField (cond t (slot (at + 2) Start (set (set ws at a) (at + 1) b)) (slot at NoField ws)) fs)
+    go : (t : Bool) → leb (at + arrivalWidth) (length ws) ≡ t
+        → Comes at ws (f ∷ fs) (fold takeField (cond t (lineState (at + arrivalWidth) Start (sets ws at (a ∷ b ∷ []))) (lineState at NoField ws)) fs)
     go true i =
-        let h : at + 2 ≤ length ws = leb-true (at + 2) (length ws) i in
-        let m : at + 2 + length fs * 2 ≡ at + suc (length fs) * 2 = omega arith in
+        let h : at + arrivalWidth ≤ length ws = leb-true (at + arrivalWidth) (length ws) i in
+        let m : at + arrivalWidth + length fs * arrivalWidth ≡ at + suc (length fs) * arrivalWidth = omega arith in
         record {
           whole = rw e (rw (← m, ← size) (x .whole));
           size = x .size ∙ size;
-          words = λ k. rw e (x .words k ∙ ap (λ (l : List ℕ). l ++ meant fs) (take-two ws at a b h) ∙ append-assoc (take at ws) (a ∷ b ∷ []) (meant fs));
+          words = λ k.
+              rw e
+              (x .words k ∙ ap (λ (l : List ℕ). l ++ meant fs) (take-sets ws at (a ∷ b ∷ []) h) ∙ append-assoc (take at ws) (a ∷ b ∷ []) (meant fs));
         }
     go false i =
-        let h : length ws < at + 2 = leb-false (at + 2) (length ws) i in
-        broken-comes at ws fs (f ∷ fs) (rw (ne-eqb (at + suc (length fs) * 2) (length ws) (λ q. omega arith), and-false (isRead (arrival f) && good fs)))
+        let h : length ws < at + arrivalWidth = leb-false (at + arrivalWidth) (length ws) i in
+        broken-comes at ws fs (f ∷ fs)
+        (rw (ne-eqb (at + suc (length fs) * arrivalWidth) (length ws) (λ q. omega arith), and-false (isRead (fieldArrival f) && good fs)))
 
-take-field : (at : ℕ) (ws f : List ℕ) → takeField (slot at Start ws) f ≡ written (arrival f) at ws
+take-field : (at : ℕ) (ws f : List ℕ) → takeField (lineState at Start ws) f ≡ written (fieldArrival f) at ws
 unfolding endField
 take-field at ws f = ap (λ (r : Arrival). written r at ws) (field-law f)
 
-comes : (at : ℕ) (ws : List ℕ) (fs : List (List ℕ)) → Comes at ws fs (fold takeField (slot at Start ws) fs)
-unfolding fold isWhole each flatMap
+comes : (at : ℕ) (ws : List ℕ) (fs : List (List ℕ)) → Comes at ws fs (fold takeField (lineState at Start ws) fs)
+unfolding fold isComplete each flatMap
 comes at ws [] = record {
   whole = ap (λ (n : ℕ). eqb n (length ws)) (omega arith);
   size = refl;
   words = λ h. sym (append-nil (take at ws) ∙ take-all at ws (omega (arith, eqb-true at (length ws) h)));
 }
-comes at ws (f ∷ fs) = rw (take-field at ws f) (taken (arrival f) refl (λ a b. comes (at + 2) (set (set ws at a) (at + 1) b) fs))
+comes at ws (f ∷ fs) = rw (take-field at ws f) (taken (fieldArrival f) refl (λ a b. comes (at + arrivalWidth) (sets ws at (a ∷ b ∷ [])) fs))
   where
-    taken : (r : Arrival) → arrival f ≡ r
-        → ((a b : ℕ) → Comes (at + 2) (set (set ws at a) (at + 1) b) fs (fold takeField (slot (at + 2) Start (set (set ws at a) (at + 1) b)) fs))
+    taken : (r : Arrival) → fieldArrival f ≡ r
+        → ((a b : ℕ) → Comes (at + arrivalWidth) (sets ws at (a ∷ b ∷ [])) fs
+        (fold takeField (lineState (at + arrivalWidth) Start (sets ws at (a ∷ b ∷ []))) fs))
         → Comes at ws (f ∷ fs) (fold takeField (written r at ws) fs)
     taken (Words a b) e rec = words-come at ws f fs a b e (rec a b)
     taken NoArrival e rec = none-comes at ws f fs e
@@ -179,22 +187,37 @@ comes at ws (f ∷ fs) = rw (take-field at ws f) (taken (arrival f) refl (λ a b
 -- what is promised of a slot line for n inputs: the answer, and for a line that is read every word of the list. Any other line leaves what it wrote.
 pub record Reads (n : ℕ) (line : List ℕ) (answer : Bool) (ws : List ℕ) : Type 0 where
   pub answered : answer ≡ isSlotLine n line
-  pub size : length ws ≡ n * 2
-  pub words : So (isSlotLine n line) → ws ≡ slotWords line
+  pub size : length ws ≡ n * arrivalWidth
+  pub words : So (isSlotLine n line) → ws ≡ slotLineWords line
 
 -- THE LAW of a slot line
-pub slot-law : (n : ℕ) (line old : List ℕ) → length old ≡ n * 2 → (answer : Bool) (ws : List ℕ) → Finished (fold slotStep (slotStart old) line) answer ws → Reads n line answer ws
-unfolding isSlotLine slotWords
+pub slot-law : (n : ℕ) (line old : List ℕ) → length old ≡ n * arrivalWidth → (answer : Bool) (ws : List ℕ)
+    → Finished (fold slotStep (slotStart old) line) answer ws → Reads n line answer ws
+unfolding isSlotLine slotLineWords
 slot-law n line old h answer ws done = record {
   answered = done .read ∙ whole;
   size = ap length (done .left) ∙ c .size ∙ h;
   words = λ k. done .left ∙ c .words (whole ∙ k);
 }
   where
-    c : Comes 0 old (fields line) (endField (fold slotStep (slotStart old) line))
-    c = rw (slot-steps (slotStart old) line) (comes 0 old (fields line))
+    c : Comes 0 old (lineFields line) (endField (fold slotStep (slotStart old) line))
+    c = rw (slot-steps (slotStart old) line) (comes 0 old (lineFields line))
 
-    whole : isWhole (endField (fold slotStep (slotStart old) line)) ≡ (eqb (length (fields line)) n && good (fields line))
-    whole = c .whole ∙ same-test (good (fields line) && eqb (0 + length (fields line) * 2) (length old)) (eqb (length (fields line)) n && good (fields line))
-        (λ k. let b = both (good (fields line)) _ k in join (eqb (length (fields line)) n) _ (eq-eqb (length (fields line)) n (omega (arith, h, eqb-true (0 + length (fields line) * 2) (length old) (b .1)))) (b .0))
-        (λ k. let b = both (eqb (length (fields line)) n) _ k in join (good (fields line)) _ (b .1) (eq-eqb (0 + length (fields line) * 2) (length old) (omega (arith, h, eqb-true (length (fields line)) n (b .0)))))
+    whole : isComplete (endField (fold slotStep (slotStart old) line)) ≡ (eqb (length (lineFields line)) n && good (lineFields line))
+    whole = c .whole ∙ same-test (good fs && eqb (0 + count * arrivalWidth) (length old)) (eqb count n && good fs) there back
+      where
+        fs : List (List ℕ)
+        fs = lineFields line
+
+        count : ℕ
+        count = length fs
+
+        there : So (good fs && eqb (0 + count * arrivalWidth) (length old)) → So (eqb count n && good fs)
+        there k =
+            let b = both (good fs) _ k in
+            join (eqb count n) _ (eq-eqb count n (omega (arith, h, eqb-true (0 + count * arrivalWidth) (length old) (b .1)))) (b .0)
+
+        back : So (eqb count n && good fs) → So (good fs && eqb (0 + count * arrivalWidth) (length old))
+        back k =
+            let b = both (eqb count n) _ k in
+            join (good fs) _ (b .1) (eq-eqb (0 + count * arrivalWidth) (length old) (omega (arith, h, eqb-true count n (b .0))))

@@ -1,11 +1,13 @@
 -- What the code does at each byte: the steps that its contracts cite.
 -- Assumes nothing.
 use Prim.Native.Nat.{ℕ, _+_}
-use mathlib.Core.Path.{_≡_}
+use mathlib.Core.Path.{_≡_, sym, _∙_}
 use mathlib.Core.Bool.{Bool, true, false, cond, _&&_}
 use mathlib.Core.List.{List}
 use lib.Dec.{leb, ltb, eqb}
-use lib.ListN.{length, set}
+use lib.ListN.{length}
+use lib.Seq.{sets}
+use Rattle.rules.specs.Answers.{arrivalWidth}
 use Rattle.text.specs.declared.Number.{Number}
 use Rattle.text.specs.declared.Number.the-variants.{Empty, Value, NoNumber}
 use Rattle.text.specs.declared.Field.{Field}
@@ -16,12 +18,13 @@ use Rattle.text.specs.declared.FirstLine.{FirstLine}
 use Rattle.text.specs.declared.FirstLine.the-variants.{Numbers, Unreadable}
 use Rattle.text.specs.declared.FirstReader.{FirstReader}
 use Rattle.text.specs.declared.SlotReader.{SlotReader}
-use Rattle.text.specs.Lines.{space, dash, colon, isDigit, push, largest, largestOutput}
+use Rattle.characters.specs.Characters.{space, dash, colon, isDigit, push}
+use Rattle.text.specs.Lines.{largestNumber, fieldWords, largestOutput}
 
 -- a number ------------------------------------------------------------------------------------
 
 unfoldable pub grown : ℕ → ℕ → Number
-grown v b = cond (isDigit b && leb (push v b) largest) (Value (push v b)) NoNumber
+grown v b = cond (isDigit b && leb (push v b) largestNumber) (Value (push v b)) NoNumber
 
 abbrev pub numberStep : Number → ℕ → Number
 numberStep Empty b = grown 0 b
@@ -71,32 +74,33 @@ fieldEnd NoField = NoArrival
 -- a slot line -----------------------------------------------------------------------------------
 
 -- the reader, and the list that it writes to
-pub record Slot : Type 0 where
+pub record LineState : Type 0 where
   pub reader : SlotReader
   pub words : List ℕ
 
-abbrev pub slot : ℕ → Field → List ℕ → Slot
-slot at f ws = record { reader = record { at = at; field = f }; words = ws }
+abbrev pub lineState : ℕ → Field → List ℕ → LineState
+lineState at f ws = record { reader = record { at = at; field = f }; words = ws }
 
-abbrev pub slotOf : SlotReader → List ℕ → Slot
-slotOf r ws = record { reader = r; words = ws }
+abbrev pub lineStateOf : SlotReader → List ℕ → LineState
+lineStateOf r ws = record { reader = r; words = ws }
 
 abbrev pub readerStart : SlotReader
 readerStart = record { at = 0; field = Start }
 
-abbrev pub slotStart : List ℕ → Slot
-slotStart ws = slotOf readerStart ws
+abbrev pub slotStart : List ℕ → LineState
+slotStart ws = lineStateOf readerStart ws
 
--- two words at `at`, where the list has room for them
-unfoldable pub written : Arrival → ℕ → List ℕ → Slot
-written (Words a b) at ws = cond (leb (at + 2) (length ws)) (slot (at + 2) Start (set (set ws at a) (at + 1) b)) (slot at NoField ws)
-written NoArrival at ws = slot at NoField ws
+-- a field's words at `at`, where the list has room for them
+unfoldable pub written : Arrival → ℕ → List ℕ → LineState
+written (Words a b) at ws =
+    cond (leb (at + arrivalWidth) (length ws)) (lineState (at + arrivalWidth) Start (sets ws at (fieldWords (Words a b)))) (lineState at NoField ws)
+written NoArrival at ws = lineState at NoField ws
 
-unfoldable pub endField : Slot → Slot
+unfoldable pub endField : LineState → LineState
 endField s = written (fieldEnd (s .reader .field)) (s .reader .at) (s .words)
 
-unfoldable pub slotStep : Slot → ℕ → Slot
-slotStep s b = cond (eqb b space) (endField s) (slot (s .reader .at) (fieldStep (s .reader .field) b) (s .words))
+unfoldable pub slotStep : LineState → ℕ → LineState
+slotStep s b = cond (eqb b space) (endField s) (lineState (s .reader .at) (fieldStep (s .reader .field) b) (s .words))
 
 -- after its last field a line is read where every word was written
 abbrev pub isGood : Field → Bool
@@ -106,13 +110,16 @@ isGood (Output n) = true
 isGood (Tag w n) = true
 isGood NoField = false
 
-unfoldable pub isWhole : Slot → Bool
-isWhole s = isGood (s .reader .field) && eqb (s .reader .at) (length (s .words))
+unfoldable pub isComplete : LineState → Bool
+isComplete s = isGood (s .reader .field) && eqb (s .reader .at) (length (s .words))
 
 -- what a line's end answers and leaves
-pub record Finished (s : Slot) (answer : Bool) (ws : List ℕ) : Type 0 where
-  pub read : answer ≡ isWhole (endField s)
+pub record Finished (s : LineState) (answer : Bool) (ws : List ℕ) : Type 0 where
+  pub read : answer ≡ isComplete (endField s)
   pub left : ws ≡ endField s .words
+
+pub finished-settled : (s : LineState) (a b : Bool) (ws vs : List ℕ) → Finished s a ws → Finished s b vs → (a ≡ b) × (ws ≡ vs)
+finished-settled s a b ws vs x y = (x .read ∙ sym (y .read), x .left ∙ sym (y .left))
 
 -- the first line --------------------------------------------------------------------------------
 

@@ -1,23 +1,23 @@
 // The lines of an arrival list: the first one read one byte at a time, a slot's field by field from the pieces that it comes in. No line and no
 // field has a longest length, and nothing is kept but the state here. What a line means is said of the whole line in specs/Lines.antt;
 // specs/Reading.antt has the law that a step a byte comes to that, and specs/Parts.antt those by which many bytes are read at once.
+use characters::COLON;
+use characters::DASH;
+use characters::FIRST_DIGIT;
+use characters::LAST_DIGIT;
+use characters::NEWLINE;
+use characters::SPACE;
+use rules::ARRIVAL_WORDS;
 ghost use Prim.Native.Nat.{_≤_, _<_};
 ghost use mathlib.Core.Path.{_≡_};
 ghost use lib.ListN.{length, getD};
 ghost use Rattle.laws.specs.Tests.{No};
 ghost use Rattle.text.specs.declared.Number.the-variants.{Empty, Value};
 ghost use Rattle.text.specs.declared.Field.the-variants.{Start, Dash, Output, Tag, NoField};
-ghost use Rattle.text.specs.Lines.{space, colon, isDigit};
-ghost use Rattle.text.specs.Steps.{grown, numberStep, fieldStep, fieldEnd, tagEnd, slotOf, readerStart, endField, slotStep, Finished, isGood, oneMore, firstStart, firstStep, firstAnswer};
-ghost use Rattle.text.specs.Parts.{ends, endsLine, Upto, Taken, Grows};
-
-pub const SPACE: u8 = 32;
-
-pub const NEWLINE: u8 = 10;
-
-const DASH: u8 = 45;
-
-const COLON: u8 = 58;
+ghost use Rattle.characters.specs.Characters.{colon, isDigit};
+ghost use Rattle.text.specs.Steps.{grown, numberStep, fieldEnd, tagEnd, lineStateOf, readerStart, endField, Finished, isGood};
+ghost use Rattle.text.specs.Steps.{oneMore, firstStart, firstStep, firstAnswer};
+ghost use Rattle.text.specs.Parts.{ends, Upto, NumberTaken, FieldTaken, LineTaken, Grows};
 
 const LARGEST: u64 = 4_294_967_295;
 
@@ -158,7 +158,7 @@ impl SlotReader {
     // The bytes of a piece from `from` on, as far as they are the line's. Where a field ends, its words are written.
     pub fn read(self, piece: &[u8], from: usize, words: &mut [u32]) -> Part
         requires { ⌜ from ≤ length (now piece) ⌝ }
-        ensures { λ r. ⌜ Taken slotStep endsLine (now (piece .entry)) (slotOf self (now (words .entry))) from (slotOf (r .reader) (now (words .exit))) (r .next) ⌝ }
+        ensures { λ r. ⌜ LineTaken (now (piece .entry)) (lineStateOf self (now (words .entry))) from (lineStateOf (r .reader) (now (words .exit))) (r .next) ⌝ }
     {
         let mut reader = self;
         let mut next = from;
@@ -179,7 +179,7 @@ impl SlotReader {
 
     // The line's end. Whether it was read; if so, every word of the list is the line's.
     pub fn finish(self, words: &mut [u32]) -> bool
-        ensures { λ r. ⌜ Finished (slotOf self (now (words .entry))) r (now (words .exit)) ⌝ }
+        ensures { λ r. ⌜ Finished (lineStateOf self (now (words .entry))) r (now (words .exit)) ⌝ }
     {
         let last = self.end_field(words);
         let at = last.at;
@@ -191,7 +191,7 @@ impl SlotReader {
     fn rest(self, piece: &[u8], from: usize) -> Part
         requires { ⌜ from ≤ length (now piece) ⌝ }
         ensures at { λ r. ⌜ r .reader .at ≡ self .at ⌝ }
-        ensures field { λ r. ⌜ Taken fieldStep (ends space) (now (piece .entry)) (self .field) from (r .reader .field) (r .next) ⌝ }
+        ensures field { λ r. ⌜ FieldTaken (now (piece .entry)) (self .field) from (r .reader .field) (r .next) ⌝ }
     {
         let at = self.at;
         let field = self.field;
@@ -204,7 +204,7 @@ impl SlotReader {
     }
 
     fn end_field(self, words: &mut [u32]) -> SlotReader
-        ensures { λ r. ⌜ slotOf r (now (words .exit)) ≡ endField (slotOf self (now (words .entry))) ⌝ }
+        ensures { λ r. ⌜ lineStateOf r (now (words .exit)) ≡ endField (lineStateOf self (now (words .entry))) ⌝ }
     {
         let at = self.at;
         let field = self.field;
@@ -216,16 +216,16 @@ impl SlotReader {
             return broken;
         };
         let size = words.len();
-        if size < 2 {
+        if size < ARRIVAL_WORDS {
             return broken;
         }
-        if at > size - 2 {
+        if at > size - ARRIVAL_WORDS {
             return broken;
         }
         words[at] = output;
         words[at + 1] = tag;
         SlotReader {
-            at: at + 2,
+            at: at + ARRIVAL_WORDS,
             field: Field::Start,
         }
     }
@@ -254,7 +254,7 @@ impl Number {
     fn read(self, piece: &[u8], from: usize, stop: u8) -> NumberPart
         requires from { ⌜ from ≤ length (now piece) ⌝ }
         requires stop { ⌜ No (isDigit stop) ⌝ }
-        ensures { λ r. ⌜ Taken numberStep (ends stop) (now (piece .entry)) self from (r .number) (r .next) ⌝ }
+        ensures { λ r. ⌜ NumberTaken stop (now (piece .entry)) self from (r .number) (r .next) ⌝ }
     {
         match self {
             Number::Empty => read_empty(piece, from, stop),
@@ -271,13 +271,13 @@ impl Number {
 fn grown(value: u32, byte: u8) -> Number
     ensures { λ r. ⌜ r ≡ grown value byte ⌝ }
 {
-    if byte < b'0' {
+    if byte < FIRST_DIGIT {
         return Number::NoNumber;
     }
-    if byte > b'9' {
+    if byte > LAST_DIGIT {
         return Number::NoNumber;
     }
-    let sum = (value as u64) * 10 + ((byte - b'0') as u64);
+    let sum = (value as u64) * 10 + ((byte - FIRST_DIGIT) as u64);
     if sum > LARGEST {
         return Number::NoNumber;
     }
@@ -288,7 +288,7 @@ fn grown(value: u32, byte: u8) -> Number
 fn read_empty(piece: &[u8], from: usize, stop: u8) -> NumberPart
     requires from { ⌜ from ≤ length (now piece) ⌝ }
     requires stop { ⌜ No (isDigit stop) ⌝ }
-    ensures { λ r. ⌜ Taken numberStep (ends stop) (now (piece .entry)) Empty from (r .number) (r .next) ⌝ }
+    ensures { λ r. ⌜ NumberTaken stop (now (piece .entry)) Empty from (r .number) (r .next) ⌝ }
 {
     let part = read_value(0, piece, from, stop);
     if part.next == from {
@@ -304,7 +304,7 @@ fn read_empty(piece: &[u8], from: usize, stop: u8) -> NumberPart
 fn read_value(value: u32, piece: &[u8], from: usize, stop: u8) -> NumberPart
     requires from { ⌜ from ≤ length (now piece) ⌝ }
     requires stop { ⌜ No (isDigit stop) ⌝ }
-    ensures { λ r. ⌜ Taken numberStep (ends stop) (now (piece .entry)) (Value value) from (r .number) (r .next) ⌝ }
+    ensures { λ r. ⌜ NumberTaken stop (now (piece .entry)) (Value value) from (r .number) (r .next) ⌝ }
 {
     let digits = read_digits(value, piece, from);
     let next = skip(piece, digits.next, stop);
@@ -320,7 +320,7 @@ fn read_value(value: u32, piece: &[u8], from: usize, stop: u8) -> NumberPart
     }
 }
 
-// The digits that fit, as `grown` takes them one by one.
+// The digits that fit, up to a byte that makes the number none.
 fn read_digits(value: u32, piece: &[u8], from: usize) -> Digits
     requires { ⌜ from ≤ length (now piece) ⌝ }
     ensures { λ r. ⌜ Grows (now (piece .entry)) value from (r .value) (r .next) ⌝ }
@@ -328,18 +328,10 @@ fn read_digits(value: u32, piece: &[u8], from: usize) -> Digits
     let mut read = value;
     let mut next = from;
     while next < piece.len() {
-        let digit = piece[next];
-        if digit < b'0' {
+        let Number::Value(sum) = grown(read, piece[next]) else {
             return Digits { value: read, next };
-        }
-        if digit > b'9' {
-            return Digits { value: read, next };
-        }
-        let sum = (read as u64) * 10 + ((digit - b'0') as u64);
-        if sum > LARGEST {
-            return Digits { value: read, next };
-        }
-        read = sum as u32;
+        };
+        read = sum;
         next += 1;
     }
     Digits { value: read, next }
@@ -367,7 +359,7 @@ impl Field {
     // The bytes up to a space, a newline or the piece's end.
     fn read(self, piece: &[u8], from: usize) -> FieldPart
         requires { ⌜ from ≤ length (now piece) ⌝ }
-        ensures { λ r. ⌜ Taken fieldStep (ends space) (now (piece .entry)) self from (r .field) (r .next) ⌝ }
+        ensures { λ r. ⌜ FieldTaken (now (piece .entry)) self from (r .field) (r .next) ⌝ }
     {
         match self {
             Field::Start => read_start(piece, from),
@@ -404,7 +396,7 @@ impl Field {
 // A field that has no byte yet stays so.
 fn read_start(piece: &[u8], from: usize) -> FieldPart
     requires { ⌜ from ≤ length (now piece) ⌝ }
-    ensures { λ r. ⌜ Taken fieldStep (ends space) (now (piece .entry)) Start from (r .field) (r .next) ⌝ }
+    ensures { λ r. ⌜ FieldTaken (now (piece .entry)) Start from (r .field) (r .next) ⌝ }
 {
     if from < piece.len() && piece[from] == DASH {
         return read_dash(piece, from + 1);
@@ -421,7 +413,7 @@ fn read_start(piece: &[u8], from: usize) -> FieldPart
 
 fn read_output(number: Number, piece: &[u8], from: usize) -> FieldPart
     requires { ⌜ from ≤ length (now piece) ⌝ }
-    ensures { λ r. ⌜ Taken fieldStep (ends space) (now (piece .entry)) (Output number) from (r .field) (r .next) ⌝ }
+    ensures { λ r. ⌜ FieldTaken (now (piece .entry)) (Output number) from (r .field) (r .next) ⌝ }
 {
     let part = number.read(piece, from, COLON);
     let next = part.next;
@@ -438,7 +430,7 @@ fn read_output(number: Number, piece: &[u8], from: usize) -> FieldPart
 // From the colon on. An output's word is the output + 1, so the largest number is no output.
 fn read_colon(number: Number, piece: &[u8], from: usize) -> FieldPart
     requires { ⌜ (from < length (now piece)) × (getD (now piece) from 0 ≡ colon) ⌝ }
-    ensures { λ r. ⌜ Taken fieldStep (ends space) (now (piece .entry)) (Output number) from (r .field) (r .next) ⌝ }
+    ensures { λ r. ⌜ FieldTaken (now (piece .entry)) (Output number) from (r .field) (r .next) ⌝ }
 {
     let Number::Value(output) = number else {
         return read_broken(piece, from + 1);
@@ -451,7 +443,7 @@ fn read_colon(number: Number, piece: &[u8], from: usize) -> FieldPart
 
 fn read_tag(word: u32, number: Number, piece: &[u8], from: usize) -> FieldPart
     requires { ⌜ from ≤ length (now piece) ⌝ }
-    ensures { λ r. ⌜ Taken fieldStep (ends space) (now (piece .entry)) (Tag word number) from (r .field) (r .next) ⌝ }
+    ensures { λ r. ⌜ FieldTaken (now (piece .entry)) (Tag word number) from (r .field) (r .next) ⌝ }
 {
     let part = number.read(piece, from, SPACE);
     let tag = part.number;
@@ -464,7 +456,7 @@ fn read_tag(word: u32, number: Number, piece: &[u8], from: usize) -> FieldPart
 // Nothing stands behind a `-`.
 fn read_dash(piece: &[u8], from: usize) -> FieldPart
     requires { ⌜ from ≤ length (now piece) ⌝ }
-    ensures { λ r. ⌜ Taken fieldStep (ends space) (now (piece .entry)) Dash from (r .field) (r .next) ⌝ }
+    ensures { λ r. ⌜ FieldTaken (now (piece .entry)) Dash from (r .field) (r .next) ⌝ }
 {
     let part = read_broken(piece, from);
     if part.next == from {
@@ -478,7 +470,7 @@ fn read_dash(piece: &[u8], from: usize) -> FieldPart
 
 fn read_broken(piece: &[u8], from: usize) -> FieldPart
     requires { ⌜ from ≤ length (now piece) ⌝ }
-    ensures { λ r. ⌜ Taken fieldStep (ends space) (now (piece .entry)) NoField from (r .field) (r .next) ⌝ }
+    ensures { λ r. ⌜ FieldTaken (now (piece .entry)) NoField from (r .field) (r .next) ⌝ }
 {
     FieldPart {
         field: Field::NoField,

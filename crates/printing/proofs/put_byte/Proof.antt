@@ -15,7 +15,7 @@ same-length : tie.Need-same-length
 same-length c = search needs
 
 returns : tie.Need-returns
-returns c = put-byte (c .args .buf .now) (c .args .at) (c .args .byte) (c .pre)
+returns c = put-byte (c .args .buf .now) (c .args .at) (c .args .byte)
 
 pub put-byte-spec : {M : Type 1} → statement M
 put-byte-spec = tie.close (tie.spec slice-write-buf add-result same-length returns)

@@ -1,7 +1,8 @@
--- Five numbers, one behind the other.
+-- The slot, the output and what the entry says, one behind the other.
 -- Assumes nothing.
+use Prim.Native.Nat.{_-_}
 use native.Mathlib.Omega.{arith}
-use Rattle.printing.specs.Printed.{cellLine}
+use Rattle.printing.specs.Printed.{cellLine, fieldBytes, lineBytes}
 use Rattle.printing.specs.Prints.{put-then}
 use borrow.Author.Needs.{needs}
 use Rattle.printing.proofs.put_cell.Statement.{statement}
@@ -13,30 +14,22 @@ put-field-requires c κs = search needs
 put-field-requires-2 : tie.Need-put-field-requires-2
 put-field-requires-2 c κs = search needs
 
-put-field-requires-3 : tie.Need-put-field-requires-3
-put-field-requires-3 c κs = search needs
-
-put-field-requires-4 : tie.Need-put-field-requires-4
-put-field-requires-4 c κs = search needs
-
-put-field-requires-5 : tie.Need-put-field-requires-5
-put-field-requires-5 c κs = search needs
+put-numbers-requires : tie.Need-put-numbers-requires
+put-numbers-requires c κs = search needs
 
 same-length : tie.Need-same-length
 same-length c = search needs
 
 returns : tie.Need-returns
 unfolding cellLine
-returns c = (omega arith, put-then (c .before .before .before .before .before .before .before .before .before .before .before .before .before .before .before .before .before .before .put-field .ensures .1) (put-then (c .before .before .before .before .before .before .before .before .before .before .before .before .before .before .put-field2 .ensures .1) (put-then (c .before .before .before .before .before .before .before .before .before .before .put-field3 .ensures .1) (put-then (c .before .before .before .before .before .before .put-field4 .ensures .1) (c .before .before .put-field5 .ensures .1)))))
+returns c =
+    let entry = c .before .before in
+    let output = entry .before .before .before .before in
+    let slot = output .before .before .before .before in
+    let rest = put-then {most = lineBytes - fieldBytes} (output .put-field2 .ensures) (entry .put-numbers .ensures) (omega arith) in
+    put-then (slot .put-field .ensures) rest (omega arith)
 
 pub put-cell-spec : {M : Type 1} → statement M
 put-cell-spec =
     tie.close
-    (tie.spec
-    put-field-requires
-    put-field-requires-2
-    put-field-requires-3
-    put-field-requires-4
-    put-field-requires-5
-    same-length
-    returns)
+    (tie.spec put-field-requires put-field-requires-2 put-numbers-requires same-length returns)

@@ -1,12 +1,13 @@
 -- The digits of what is left are to come, in front of those that stand.
 -- Assumes nothing.
 use Prim.Native.Nat.{_+_, _-_, _/_, _≤_}
-use mathlib.Core.Path.{_≡_, ap, _∙_}
+use mathlib.Core.Path.{_≡_, ap}
 use native.Mathlib.Omega.{arith}
 use mathlib.Core.List.{[], _∷_, _++_}
 use lib.ListN.{length, length-set}
+use Rattle.characters.specs.Characters.{digitByte}
 use Rattle.printing.specs.Printed.{decimal}
-use Rattle.printing.specs.Prints.{Behind, behind-none, behind-byte, behind-all, decimal-one, decimal-more, decimal-longer}
+use Rattle.printing.specs.Prints.{Behind, behind-none, behind-byte, behind-size, behind-all, decimal-one, decimal-more, decimal-longer}
 use Rattle.printing.proofs.put_number.Statement.{statement}
 use Rattle.printing.proofs.put_number.Tie as tie
 
@@ -23,39 +24,49 @@ add-end : tie.Need-add-end Inv-loop μ-loop
 add-end c = omega arith
 
 loop-holds : tie.Need-loop-holds Inv-loop μ-loop
-loop-holds c = (omega arith, behind-none (c .before .before .args .buf .now) (c .before .before .args .at) (decimal (c .before .before .args .number)) _ (omega arith))
+loop-holds c = (omega arith, behind-none _ _ _ _ (omega arith))
+
+-- what is left has a digit more than its tenth, or is one digit
+longer : (c : tie.In-loop Inv-loop μ-loop) → length (decimal (c .before .loop .left)) ≡ length (decimal (c .before .loop .left / 10)) + 1
+longer c = decimal-longer (c .before .loop .left) (c .loop-test .taken)
 
 sub-next : tie.Need-sub-next Inv-loop μ-loop
-sub-next c = omega (arith, decimal-longer (c .before .loop .left) (c .loop-test .taken))
+sub-next c = omega (arith, longer c)
 
-digit-requires : tie.Need-digit-requires Inv-loop μ-loop
-digit-requires c κs = omega arith
+digit-byte-requires : tie.Need-digit-byte-requires Inv-loop μ-loop
+digit-byte-requires c κs = omega arith
 
 slice-write-buf : tie.Need-slice-write-buf Inv-loop μ-loop
-slice-write-buf c = omega (arith, decimal-longer (c .before .before .loop .left) (c .before .loop-test .taken))
+slice-write-buf c = omega (arith, longer (c .before), behind-size (c .before .before .loop .inv .1))
 
 loop-less : tie.Need-loop-less Inv-loop μ-loop
 loop-less c = omega arith
 
 loop-again : tie.Need-loop-again Inv-loop μ-loop
 loop-again c =
-    let m : decimal (c .before .before .loop .left) ≡ decimal (c .before .before .loop .left / 10) ++ (c .digit .result ∷ []) = rw (c .digit .ensures) (decimal-more (c .before .before .loop .left) (c .before .loop-test .taken)) in
-    let p : c .before .before .loop .next ≡ c .before .before .loop .next - 1 + 1 = omega (arith, decimal-longer (c .before .before .loop .left) (c .before .loop-test .taken)) in
-    (omega arith, behind-byte (c .before .before .loop .next - 1) (c .digit .result) (c .before .before .loop .inv .1) m p (omega arith))
+    let l = c .before .before .loop in
+    let m : decimal (l .left) ≡ decimal (l .left / 10) ++ (c .digit-byte .result ∷ []) =
+    rw (c .digit-byte .ensures) (decimal-more (l .left) (c .before .loop-test .taken)) in
+    let p : l .next ≡ l .next - 1 + 1 = omega (arith, longer (c .before)) in
+    (omega arith, behind-byte (l .next - 1) (c .digit-byte .result) (l .inv .1) m p)
 
-digit-requires-2 : tie.Need-digit-requires-2 Inv-loop μ-loop
-digit-requires-2 c κs = omega arith
+digit-byte-requires-2 : tie.Need-digit-byte-requires-2 Inv-loop μ-loop
+digit-byte-requires-2 c κs = omega arith
+
+last-digit : (c : tie.After-loop Inv-loop μ-loop) → decimal (c .before .loop .left) ≡ digitByte (c .before .loop .left) ∷ []
+last-digit c = decimal-one (c .before .loop .left) (omega arith)
 
 slice-write-buf-2 : tie.Need-slice-write-buf-2 Inv-loop μ-loop
-slice-write-buf-2 c = omega (arith, ap length (decimal-one (c .before .before .loop .left) (omega arith)))
+slice-write-buf-2 c = omega (arith, ap length (last-digit (c .before)), behind-size (c .before .before .loop .inv .1))
 
 same-length : tie.Need-same-length Inv-loop μ-loop
-same-length c = length-set (c .before .before .loop .buf) (c .before .before .before .before .before .args .at) (c .digit2 .result) ∙ c .before .before .loop .inv .1 .size
+same-length c = simp length-set (behind-size (c .before .before .loop .inv .1))
 
 returns : tie.Need-returns Inv-loop μ-loop
 returns c =
-    let m : decimal (c .before .before .loop .left) ≡ c .digit2 .result ∷ [] = rw (c .digit2 .ensures) (decimal-one (c .before .before .loop .left) (omega arith)) in
-    behind-all _ (omega arith) (behind-byte (c .before .before .before .before .before .args .at) (c .digit2 .result) (c .before .before .loop .inv .1) m (omega (arith, ap length m)) (omega (arith, ap length m)))
+    let l = c .before .before .loop in
+    let m : decimal (l .left) ≡ c .digit-byte2 .result ∷ [] = rw (c .digit-byte2 .ensures) (last-digit (c .before)) in
+    behind-all _ _ (omega arith) (omega arith) (behind-byte _ (c .digit-byte2 .result) (l .inv .1) m (omega (arith, ap length m)))
 
 pub put-number-spec : {M : Type 1} → statement M
 put-number-spec =
@@ -67,11 +78,11 @@ put-number-spec =
     add-end
     loop-holds
     sub-next
-    digit-requires
+    digit-byte-requires
     slice-write-buf
     loop-less
     loop-again
-    digit-requires-2
+    digit-byte-requires-2
     slice-write-buf-2
     same-length
     returns)

@@ -3,6 +3,7 @@
 use native.Mathlib.Omega.{arith}
 use Rattle.laws.specs.Texts.{bytes}
 use Rattle.printing.specs.Printed.{unreadableLine}
+use Rattle.printing.specs.Prints.{put-within}
 use borrow.Author.Needs.{needs}
 use Rattle.printing.proofs.put_unreadable.Statement.{statement}
 use Rattle.printing.proofs.put_unreadable.Tie as tie
@@ -18,7 +19,7 @@ same-length c = search needs
 
 returns : tie.Need-returns
 unfolding unreadableLine bytes
-returns c = (omega (arith, c .before .before .put-text .ensures .place), c .before .before .put-text .ensures)
+returns c = let p = c .before .before .put-text .ensures in put-within p (omega (arith, p .within))
 
 pub put-unreadable-spec : {M : Type 1} → statement M
 put-unreadable-spec =

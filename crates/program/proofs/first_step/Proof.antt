@@ -1,27 +1,29 @@
 -- A byte is a step of the reader; at the newline the line is what the reader says.
 -- Assumes nothing.
-use mathlib.Core.Path.{sym, ap, _∙_}
+use Prim.Native.Nat.{ℕ}
+use mathlib.Core.Path.{_≡_, sym, _∙_}
+use mathlib.Core.List.{List}
 use native.Mathlib.Omega.{arith}
 use borrow.Author.Tests.{ne-eqb}
-use Rattle.text.specs.declared.FirstReader.{FirstReader}
-use Rattle.printing.specs.Printed.{unreadableLine}
+use Rattle.characters.specs.Characters.{newline}
+use Rattle.text.specs.declared.FirstLine.{FirstLine}
+use Rattle.text.specs.declared.FirstLine.the-variants.{Unreadable}
 use Rattle.program.specs.Program.{linesOf, firstText}
-use Rattle.program.specs.Coming.{openingFrom, comingBy}
-use Rattle.program.specs.Bytes.{opening-byte, opening-end}
-use Rattle.program.specs.Turns.{turns-as, turns-silent, turns-over}
+use Rattle.program.specs.Coming.{onByte}
+use Rattle.program.specs.Bytes.{opening-end}
+use Rattle.program.specs.Turns.{turns-as, turns-first, turns-over}
 use borrow.Author.Needs.{needs}
 use Rattle.program.proofs.first_step.Statement.{statement}
 use Rattle.program.proofs.first_step.Tie as tie
 
 step-requires : tie.Need-step-requires
-step-requires c κs = tt
+step-requires c κs = search needs
 
 returns : tie.Need-returns
-unfolding comingBy
-returns c = λ ws. turns-silent _ _ _ _ tt (λ rest. opening-byte (c .before .before .before .before .args .reader) (c .before .before .before .before .args .byte) rest (ne-eqb _ 10 (c .before .if1 .taken)) ∙ ap (λ (r : FirstReader). openingFrom r (linesOf rest)) (sym (c .step .ensures)))
+returns c = rw (c .step .ensures) (turns-first _ _ _ _ _ (ne-eqb _ newline (c .before .if1 .taken)))
 
 finish-requires : tie.Need-finish-requires
-finish-requires c κs = tt
+finish-requires c κs = search needs
 
 enum-known-ports : tie.Need-enum-known-ports
 enum-known-ports c = search needs
@@ -35,9 +37,20 @@ put-unreadable-requires c κs = search needs
 same-length : tie.Need-same-length
 same-length c = search needs
 
+-- the line's end: what the reader says of the line
+abbrev read : tie.After-finish → tie.Start
+read c = c .before .before .before .before
+
+ended : (c : tie.After-finish) (line : FirstLine) → c .finish .result ≡ line → (rest : List ℕ)
+    → onByte (read c .args .reader) (read c .args .byte) rest ≡ firstText line (linesOf rest)
+ended c line e rest = opening-end (read c .args .reader) (read c .args .byte) rest line (c .before .if1 .left) (sym (c .finish .ensures) ∙ e)
+
 returns-2 : tie.Need-returns-2
 unfolding firstText
-returns-2 c = λ ws. turns-over _ _ _ unreadableLine _ ws _ _ (c .before .before .put-unreadable .ensures .1) (omega (arith, c .before .before .put-unreadable .ensures .0)) (λ rest. opening-end (c .before .before .before .before .before .before .before .before .before .before .args .reader) (c .before .before .before .before .before .before .before .before .before .before .args .byte) rest _ (c .before .before .before .before .before .before .before .if1 .left) (sym (c .before .before .before .before .before .before .finish .ensures) ∙ c .before .before .before .before .enum-told .given .1))
+returns-2 c =
+    let p = c .before .before in
+    let t = p .before .before in
+    turns-over (p .put-unreadable .ensures) (omega arith) (ended (t .before .before) Unreadable (t .enum-told .given .1))
 
 begin-requires : tie.Need-begin-requires
 begin-requires c κs = search needs
@@ -49,7 +62,10 @@ same-length-3 : tie.Need-same-length-3
 same-length-3 c = search needs
 
 returns-3 : tie.Need-returns-3
-returns-3 c = λ ws. turns-as (c .before .before .before .before .begin .ensures ws) (λ rest. opening-end (c .before .before .before .before .before .before .before .before .before .before .before .before .before .before .args .reader) (c .before .before .before .before .before .before .before .before .before .before .before .before .before .before .args .byte) rest _ (c .before .before .before .before .before .before .before .before .before .before .before .if1 .left) (sym (c .before .before .before .before .before .before .before .before .before .before .finish .ensures) ∙ c .before .before .before .before .before .before .before .before .ports .given .1))
+returns-3 c =
+    let b = c .before .before .before .before in
+    let n = b .before .before .before .before in
+    turns-as (b .begin .ensures) (ended (n .before .before) _ (n .ports .given .1))
 
 pub first-step-spec : {M : Type 1} → statement M
 first-step-spec =

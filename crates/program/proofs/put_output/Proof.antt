@@ -1,7 +1,7 @@
--- The test is that of `cellText`.
+-- The test is that of `cellText`, and what follows the first word is the line's.
 -- Assumes nothing.
-use native.Mathlib.Omega.{arith}
 use borrow.Author.Tests.{eq-eqb, ne-eqb}
+use Rattle.laws.specs.Pieces.{part}
 use Rattle.printing.specs.Prints.{put-none}
 use Rattle.program.specs.Program.{cellText}
 use borrow.Author.Needs.{needs}
@@ -19,34 +19,25 @@ shared-slice-read-if1 c = search needs
 
 returns : tie.Need-returns
 unfolding cellText
-returns c = (omega arith, rw (eq-eqb _ 0 (c .if1 .taken)) (put-none _ _))
+returns c = rw (eq-eqb _ 0 (c .if1 .taken)) (put-none _ _ _)
 
 add-put-cell : tie.Need-add-put-cell
 add-put-cell c = search needs
 
-mul-put-cell : tie.Need-mul-put-cell
-mul-put-cell c = search needs
-
-shared-slice-read-put-cell : tie.Need-shared-slice-read-put-cell
-shared-slice-read-put-cell c = search needs
-
 add-put-cell-2 : tie.Need-add-put-cell-2
 add-put-cell-2 c = search needs
 
-mul-put-cell-2 : tie.Need-mul-put-cell-2
-mul-put-cell-2 c = search needs
+mul-put-cell : tie.Need-mul-put-cell
+mul-put-cell c = search needs
 
-shared-slice-read-put-cell-2 : tie.Need-shared-slice-read-put-cell-2
-shared-slice-read-put-cell-2 c = search needs
+sub-put-cell : tie.Need-sub-put-cell
+sub-put-cell c = search needs
 
-add-put-cell-3 : tie.Need-add-put-cell-3
-add-put-cell-3 c = search needs
+part-put-cell-start : tie.Need-part-put-cell-start
+part-put-cell-start c = search needs
 
-mul-put-cell-3 : tie.Need-mul-put-cell-3
-mul-put-cell-3 c = search needs
-
-shared-slice-read-put-cell-3 : tie.Need-shared-slice-read-put-cell-3
-shared-slice-read-put-cell-3 c = search needs
+part-put-cell-end : tie.Need-part-put-cell-end
+part-put-cell-end c = search needs
 
 put-cell-requires : tie.Need-put-cell-requires
 put-cell-requires c κs = search needs
@@ -55,8 +46,10 @@ same-length : tie.Need-same-length
 same-length c = search needs
 
 returns-2 : tie.Need-returns-2
-unfolding cellText
-returns-2 c = (c .before .before .put-cell .ensures .0, rw (ne-eqb _ 0 (c .before .before .before .before .before .before .before .if1 .left)) (c .before .before .put-cell .ensures .1))
+unfolding cellText part
+returns-2 c =
+    let p = c .before .before in
+    rw (ne-eqb _ 0 (p .before .before .before .if1 .left)) (p .put-cell .ensures)
 
 pub put-output-spec : {M : Type 1} → statement M
 put-output-spec =
@@ -67,14 +60,11 @@ put-output-spec =
     shared-slice-read-if1
     returns
     add-put-cell
-    mul-put-cell
-    shared-slice-read-put-cell
     add-put-cell-2
-    mul-put-cell-2
-    shared-slice-read-put-cell-2
-    add-put-cell-3
-    mul-put-cell-3
-    shared-slice-read-put-cell-3
+    mul-put-cell
+    sub-put-cell
+    part-put-cell-start
+    part-put-cell-end
     put-cell-requires
     same-length
     returns-2)

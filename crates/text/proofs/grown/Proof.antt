@@ -1,7 +1,8 @@
 -- The tests on the byte and on the sum are those of `grown`.
 -- Assumes nothing.
 use borrow.Author.Tests.{le-leb, lt-leb}
-use Rattle.text.specs.Lines.{isDigit, push}
+use Rattle.characters.specs.Characters.{firstDigit, lastDigit, isDigit, push}
+use Rattle.text.specs.Lines.{largestNumber}
 use Rattle.text.specs.Steps.{grown}
 use borrow.Author.Needs.{needs}
 use Rattle.text.proofs.grown.Statement.{statement}
@@ -9,11 +10,11 @@ use Rattle.text.proofs.grown.Tie as tie
 
 returns : tie.Need-returns
 unfolding grown isDigit push
-returns c = simp (lt-leb 48 _ (c .if1 .taken))
+returns c = simp (lt-leb firstDigit _ (c .if1 .taken))
 
 returns-2 : tie.Need-returns-2
 unfolding grown isDigit push
-returns-2 c = simp (le-leb 48 _ (c .before .if1 .left), lt-leb _ 57 (c .if2 .taken))
+returns-2 c = simp (le-leb firstDigit _ (c .before .if1 .left), lt-leb _ lastDigit (c .if2 .taken))
 
 mul-sum : tie.Need-mul-sum
 mul-sum c = search needs
@@ -26,14 +27,14 @@ add-sum c = search needs
 
 returns-3 : tie.Need-returns-3
 unfolding grown isDigit push
-returns-3 c = simp (le-leb 48 _ (c .before .before .if1 .left), le-leb _ 57 (c .before .if2 .left), lt-leb _ 4294967295 (c .if3 .taken))
+returns-3 c = simp (le-leb firstDigit _ (c .before .before .if1 .left), le-leb _ lastDigit (c .before .if2 .left), lt-leb _ largestNumber (c .if3 .taken))
 
 cast-t9 : tie.Need-cast-t9
 cast-t9 c = search needs
 
 returns-4 : tie.Need-returns-4
 unfolding grown isDigit push
-returns-4 c = simp (le-leb 48 _ (c .before .before .if1 .left), le-leb _ 57 (c .before .if2 .left), le-leb _ 4294967295 (c .if3 .left))
+returns-4 c = simp (le-leb firstDigit _ (c .before .before .if1 .left), le-leb _ lastDigit (c .before .if2 .left), le-leb _ largestNumber (c .if3 .left))
 
 pub grown-spec : {M : Type 1} → statement M
 grown-spec =

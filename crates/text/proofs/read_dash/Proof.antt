@@ -14,7 +14,9 @@ returns : tie.Need-returns
 returns c = taken-none _ _ _ Dash _ (rw (c .if1 .taken) at (c .before .before .read-broken .ensures .place))
 
 returns-2 : tie.Need-returns-2
-returns-2 c = dash-taken _ _ _ _ (omega (arith, c .if1 .left, c .before .before .read-broken .ensures .place .span .order)) (c .before .before .read-broken .ensures)
+returns-2 c =
+    let x = c .before .before .read-broken .ensures in
+    dash-taken _ _ _ _ (omega (arith, c .if1 .left, x .place .span .order)) x
 
 pub read-dash-spec : {M : Type 1} → statement M
 read-dash-spec = tie.close (tie.spec read-broken-requires returns returns-2)

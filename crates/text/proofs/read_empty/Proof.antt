@@ -14,7 +14,10 @@ returns : tie.Need-returns
 returns c = taken-none _ _ _ Empty _ (rw (c .if1 .taken) at (c .before .before .read-value .ensures .place))
 
 returns-2 : tie.Need-returns-2
-returns-2 c = empty-taken _ _ (c .before .before .before .before .pre .1) _ _ _ (omega (arith, c .if1 .left, c .before .before .read-value .ensures .place .span .order)) (c .before .before .read-value .ensures)
+returns-2 c =
+    let v = c .before .before in
+    let x = v .read-value .ensures in
+    empty-taken _ _ (v .before .before .pre .1) _ _ _ (omega (arith, c .if1 .left, x .place .span .order)) x
 
 pub read-empty-spec : {M : Type 1} → statement M
 read-empty-spec = tie.close (tie.spec read-value-requires returns returns-2)

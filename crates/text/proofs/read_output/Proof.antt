@@ -4,7 +4,7 @@ use mathlib.Core.Path.{refl}
 use mathlib.Core.Logic.{⊎-elim}
 use native.Mathlib.Omega.{arith}
 use borrow.Author.Tests.{eqb-true, eqb-false}
-use Rattle.text.specs.Lines.{isDigit}
+use Rattle.characters.specs.Characters.{colon, isDigit}
 use Rattle.text.specs.Parts.{output-taken, output-then}
 use borrow.Author.Needs.{needs}
 use Rattle.text.proofs.read_output.Statement.{statement}
@@ -18,13 +18,14 @@ shared-slice-read-if2 : tie.Need-shared-slice-read-if2
 shared-slice-read-if2 c = search needs
 
 read-colon-requires : tie.Need-read-colon-requires
-read-colon-requires c κs = (omega arith, eqb-true _ 58 (c .if2 .taken))
+read-colon-requires c κs = (omega arith, eqb-true _ colon (c .if2 .taken))
 
 returns : tie.Need-returns
 returns c = output-then _ _ _ _ _ _ _ (c .before .before .before .before .read .ensures) (c .read-colon .ensures)
 
 returns-2 : tie.Need-returns-2
-returns-2 c = output-taken _ _ _ _ _ (λ l e. ⊎-elim (λ w. eqb-false _ 58 (w .2 .left) e) (λ w. omega (arith, l, w .left)) (c .if1 .came)) (c .before .read .ensures)
+returns-2 c =
+    output-taken _ _ _ _ _ (λ l e. ⊎-elim (λ w. eqb-false _ colon (w .2 .left) e) (λ w. omega (arith, l, w .left)) (c .if1 .came)) (c .before .read .ensures)
 
 pub read-output-spec : {M : Type 1} → statement M
 read-output-spec =

@@ -1,7 +1,7 @@
 -- A tag is its number, up to the field's end.
 -- Assumes nothing.
 use mathlib.Core.Path.{refl}
-use Rattle.text.specs.Lines.{isDigit}
+use Rattle.characters.specs.Characters.{isDigit}
 use Rattle.text.specs.Parts.{tag-taken}
 use Rattle.text.proofs.read_tag.Statement.{statement}
 use Rattle.text.proofs.read_tag.Tie as tie

@@ -13,10 +13,17 @@ skip-requires : tie.Need-skip-requires
 skip-requires c κs = search needs
 
 returns : tie.Need-returns
-returns c = rw (c .if1 .taken) (value-whole _ _ (c .before .before .before .before .before .pre .1) _ _ _ _ (c .before .before .before .read-digits .ensures) (rw (c .if1 .taken) at (c .before .before .skip .ensures)))
+returns c =
+    let s = c .before .before in
+    let d = s .before in
+    rw (c .if1 .taken) (value-whole _ _ (d .before .before .pre .1) _ _ _ _ (d .read-digits .ensures) (rw (c .if1 .taken) at (s .skip .ensures)))
 
 returns-2 : tie.Need-returns-2
-returns-2 c = value-none _ _ (c .before .before .before .before .before .pre .1) _ _ _ _ _ (c .before .before .before .read-digits .ensures) (c .before .before .skip .ensures) (omega (arith, c .before .before .skip .ensures .span .order, c .if1 .left))
+returns-2 c =
+    let s = c .before .before in
+    let d = s .before in
+    let u = s .skip .ensures in
+    value-none _ _ (d .before .before .pre .1) _ _ _ _ _ (d .read-digits .ensures) u (omega (arith, u .span .order, c .if1 .left))
 
 pub read-value-spec : {M : Type 1} → statement M
 read-value-spec = tie.close (tie.spec read-digits-requires skip-requires returns returns-2)

@@ -1,12 +1,9 @@
 -- Each arm is the case of `comingBy`; a line begins with its first byte.
 -- Assumes nothing.
-use Prim.Native.Nat.{_+_}
 use mathlib.Core.Path.{refl}
 use native.Mathlib.Omega.{arith}
-use lib.ListN.{getD, drop}
-use denote.Ref.{now}
+use Rattle.program.specs.Lent.{endRoom}
 use Rattle.program.specs.Coming.{comingBy}
-use Rattle.laws.specs.Pieces.{drop-next}
 use Rattle.program.specs.Turns.{inside-between, inside-within, goes-none, goes-byte, goes-over, goes-begins}
 use borrow.Author.Needs.{needs}
 use Rattle.program.proofs.Program.advance.Statement.{statement}
@@ -28,16 +25,22 @@ enum-known-self-2 : tie.Need-enum-known-self-2
 enum-known-self-2 c = search needs
 
 start-requires : tie.Need-start-requires
-start-requires c κs = tt
+start-requires c κs = search needs
 
 advance-requires : tie.Need-advance-requires
-advance-requires c κs = (inside-between (c .before .before .before .before .before .self2 .given .1) (c .before .before .before .before .before .before .before .before .before .before .before .pre .0), c .before .before .before .before .before .before .before .before .before .before .before .pre .1)
+advance-requires c κs =
+    let s = c .before .before .before .before .before in
+    let g = s .before .before .before .before .before .before .pre in
+    record { inside = inside-between (s .self2 .given .1) (g .inside); unread = g .unread; lent = g .lent }
 
 enum-known-self-3 : tie.Need-enum-known-self-3
 enum-known-self-3 c = search needs
 
 advance-requires-2 : tie.Need-advance-requires-2
-advance-requires-2 c κs = (inside-within (c .before .before .before .before .self3 .given .1) (c .before .before .before .before .before .before .before .before .before .before .pre .0), c .before .before .before .before .before .before .before .before .before .before .pre .1)
+advance-requires-2 c κs =
+    let s = c .before .before .before .before in
+    let g = s .before .before .before .before .before .before .pre in
+    record { inside = inside-within (s .self3 .given .1) (g .inside); unread = g .unread; lent = g .lent }
 
 enum-told : tie.Need-enum-told
 enum-told c = search needs
@@ -50,10 +53,14 @@ same-length-2 c = search needs
 
 returns : tie.Need-returns
 unfolding comingBy
-returns c = let a = c .before .before .before .before .before .before .before .before .before .before .before .before .before .before .before .args in
-    let p = now (a .piece) in
-    let e = c .before .before .before .before .first-step .ensures (now (a .arrivals)) in
-    (rw (c .before .before .before .before .before .before .before .before .before .self .given .1) (goes-byte (getD p (a .from) 0) (drop (a .from + 1) p) (drop-next p (a .from) (getD p (a .from) 0) (c .before .before .before .before .before .before .before .before .before .before .before .before .before .before .before .pre .1 .0) refl) (goes-none _ _ _ _ tt) e), (omega arith, omega (arith, c .before .before .before .before .before .before .before .before .before .before .before .before .before .before .before .pre .1 .0), e .within))
+returns c =
+    let f = c .before .before .before .before in
+    let s = f .before .before .before .before .before in
+    let e = s .before .before .before .before .before .before in
+    let t = f .first-step .ensures in
+    let u = e .pre .unread in
+    let none = goes-none endRoom (e .args .piece .now) _ (e .args .from) (e .args .out .now) (e .args .at) tt (omega (arith, u)) in
+    (rw (s .self .given .1) (goes-byte _ (e .args .arrivals .now) none (omega (arith, u)) refl t (t .put .within)), omega arith)
 
 same-length-3 : tie.Need-same-length-3
 same-length-3 c = search needs
@@ -65,12 +72,13 @@ same-length-5 : tie.Need-same-length-5
 same-length-5 c = search needs
 
 returns-2 : tie.Need-returns-2
-returns-2 c = let a = c .before .before .before .before .before .before .before .before .before .before .before .before .before .before .before .before .before .before .args in
-    let p = now (a .piece) in
-    let s = c .before .before .before .before .before .before .before .before .before .before .before .before .self2 .given in
-    let z = inside-between (s .1) (c .before .before .before .before .before .before .before .before .before .before .before .before .before .before .before .before .before .before .pre .0) in
-    let e = c .before .before .before .before .before .before .advance .ensures in
-    (rw (s .1) (goes-begins (s .0 .0) (now (a .table)) (now (a .arrivals)) z (getD p (a .from) 0) _ (drop (a .from + 1) p) _ _ _ _ _ _ (c .before .before .before .before .before .before .before .before .before .before .before .before .before .before .before .before .before .before .pre .1 .1 .0 .1) (drop-next p (a .from) (getD p (a .from) 0) (c .before .before .before .before .before .before .before .before .before .before .before .before .before .before .before .before .before .before .pre .1 .0) refl) (rw (c .before .before .before .before .before .before .before .before .before .before .start .ensures) at (e .0))), e .1)
+returns-2 c =
+    let r = c .before .before .before .before .before .before in
+    let s = r .before .before .before .before .before .before in
+    let g = s .before .before .before .before .before .before .pre in
+    let b = inside-between (s .self2 .given .1) (g .inside) in
+    let n = rw (r .before .before .before .before .start .ensures) at (r .advance .ensures .0) in
+    (rw (s .self2 .given .1) (goes-begins (s .self2 .given .0 .0) b (g .lent .line-long) (omega (arith, g .unread)) n), r .advance .ensures .1)
 
 same-length-6 : tie.Need-same-length-6
 same-length-6 c = search needs
@@ -82,10 +90,14 @@ same-length-8 : tie.Need-same-length-8
 same-length-8 c = search needs
 
 returns-3 : tie.Need-returns-3
-returns-3 c = (rw (c .before .before .before .before .before .before .before .before .before .before .before .self3 .given .1) (c .before .before .before .before .before .before .advance2 .ensures .0), c .before .before .before .before .before .before .advance2 .ensures .1)
+returns-3 c =
+    let r = c .before .before .before .before .before .before in
+    (rw (r .before .before .before .before .before .self3 .given .1) (r .advance2 .ensures .0), r .advance2 .ensures .1)
 
 returns-4 : tie.Need-returns-4
-returns-4 c = (rw (c .enum-told .given .1) (goes-over _ _ _ _ _ _), (c .before .before .before .before .before .before .pre .1 .0, omega arith, omega arith))
+returns-4 c =
+    let u = c .before .before .before .before .before .before .pre .unread in
+    (rw (c .enum-told .given .1) (goes-over _ _ _ _ _ _ _ (omega (arith, u))), omega (arith, u))
 
 pub advance-spec : {M : Type 1} → statement M
 advance-spec =

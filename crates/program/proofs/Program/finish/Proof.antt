@@ -1,7 +1,7 @@
 -- Each arm is the case of `closing`.
 -- Assumes nothing.
 use native.Mathlib.Omega.{arith}
-use Rattle.printing.specs.Prints.{put-none}
+use Rattle.printing.specs.Prints.{put-none, put-within}
 use Rattle.program.specs.Coming.{closing}
 use Rattle.program.specs.Turns.{inside-between, inside-within}
 use borrow.Author.Needs.{needs}
@@ -18,13 +18,20 @@ enum-known-self : tie.Need-enum-known-self
 enum-known-self c = search needs
 
 put-held-requires : tie.Need-put-held-requires
-put-held-requires c κs = let z = inside-between (c .before .before .self .given .1) (c .before .before .before .before .before .before .pre .0) in ((omega (arith, z .words), z .words), omega arith)
+put-held-requires c κs =
+    let s = c .before .before in
+    let e = s .before .before .before .before in
+    let z = inside-between (s .self .given .1) (e .pre .0) in
+    (omega (arith, z .words, e .pre .1 .table-long), omega (arith, e .pre .1 .room))
 
 enum-known-self-2 : tie.Need-enum-known-self-2
 enum-known-self-2 c = search needs
 
 put-end-requires : tie.Need-put-end-requires
-put-end-requires c κs = let z = inside-within (c .before .before .self2 .given .1) (c .before .before .before .before .before .before .pre .0) in ((omega (arith, z .words), z .words), omega arith)
+put-end-requires c κs =
+    let s = c .before .before in
+    let e = s .before .before .before .before in
+    record { sizes = inside-within (s .self2 .given .1) (e .pre .0); room = e .pre .1 }
 
 enum-told-2 : tie.Need-enum-told-2
 enum-told-2 c = search needs
@@ -34,25 +41,29 @@ same-length c = search needs
 
 returns : tie.Need-returns
 unfolding closing
-returns c = (omega (arith, c .before .before .put-unreadable .ensures .0), rw (c .before .before .before .before .enum-told .given .1) (c .before .before .put-unreadable .ensures .1))
+returns c =
+    let p = c .before .before in
+    rw (p .before .before .enum-told .given .1) (put-within (p .put-unreadable .ensures) (omega (arith, p .put-unreadable .ensures .within)))
 
 same-length-2 : tie.Need-same-length-2
 same-length-2 c = search needs
 
 returns-2 : tie.Need-returns-2
 unfolding closing
-returns-2 c = (omega (arith, c .before .before .put-held .ensures .0), rw (c .before .before .before .before .before .self .given .1) (c .before .before .put-held .ensures .1))
+returns-2 c =
+    let p = c .before .before in
+    rw (p .before .before .before .self .given .1) (put-within (p .put-held .ensures) (omega (arith, p .put-held .ensures .within)))
 
 same-length-3 : tie.Need-same-length-3
 same-length-3 c = search needs
 
 returns-3 : tie.Need-returns-3
 unfolding closing
-returns-3 c = (omega (arith, c .before .before .put-end .ensures .0), rw (c .before .before .before .before .before .self2 .given .1) (c .before .before .put-end .ensures .1))
+returns-3 c = let p = c .before .before in rw (p .before .before .before .self2 .given .1) (p .put-end .ensures)
 
 returns-4 : tie.Need-returns-4
 unfolding closing
-returns-4 c = (omega arith, rw (c .enum-told2 .given .1) (put-none _ _))
+returns-4 c = rw (c .enum-told2 .given .1) (put-none _ _ _)
 
 pub finish-spec : {M : Type 1} → statement M
 finish-spec =

@@ -18,7 +18,9 @@ same-length c = search needs
 
 returns : tie.Need-returns
 unfolding endText
-returns c = (omega (arith, c .before .before .put-held .ensures .0, c .before .before .before .before .before .before .put-unreadable .ensures .0), put-then (c .before .before .before .before .before .before .put-unreadable .ensures .1) (c .before .before .put-held .ensures .1))
+returns c =
+    let p = c .before .before in
+    put-then (p .before .before .before .before .put-unreadable .ensures) (p .put-held .ensures) (omega arith)
 
 pub put-end-spec : {M : Type 1} → statement M
 put-end-spec = tie.close (tie.spec put-unreadable-requires put-held-requires same-length returns)

@@ -1,8 +1,8 @@
 -- A table holds no more live cells than words, so their number fits.
 -- Assumes nothing.
-use mathlib.Core.Path.{sym}
-use lib.ListN.{take}
+use mathlib.Core.Path.{_≡_, sym}
 use native.Mathlib.Omega.{arith}
+use lib.ListN.{length, take}
 use lib.Seq.{length-take-le}
 use Rattle.program.specs.Program.{heldText}
 use Rattle.program.specs.Turns.{live-small}
@@ -10,14 +10,20 @@ use borrow.Author.Needs.{needs}
 use Rattle.program.proofs.Running.put_held.Statement.{statement}
 use Rattle.program.proofs.Running.put_held.Tie as tie
 
-slice-aggregate-live : tie.Need-slice-aggregate-live
-slice-aggregate-live c = sym (length-take-le (c .before .before .before .args .self .words) (c .before .before .before .args .table .now) (omega arith))
+-- the words that are the switch's own
+own-long : (c : tie.Start) → length (take (c .args .self .words) (c .args .table .now)) ≡ c .args .self .words
+own-long c = length-take-le (c .args .self .words) (c .args .table .now) (omega arith)
 
-live-requires : tie.Need-live-requires
-live-requires c κs = tt
+slice-aggregate-held : tie.Need-slice-aggregate-held
+slice-aggregate-held c = sym (own-long (c .before .before .before))
+
+held-requires : tie.Need-held-requires
+held-requires c κs = search needs
 
 cast-put-held : tie.Need-cast-put-held
-cast-put-held c = let t = take (c .before .before .before .before .before .args .self .words) (c .before .before .before .before .before .args .table .now) in omega (arith, c .before .live .ensures, live-small t, length-take-le (c .before .before .before .before .before .args .self .words) (c .before .before .before .before .before .args .table .now) (omega arith))
+cast-put-held c =
+    let e = c .before .before .before .before .before in
+    omega (arith, c .before .held .ensures, live-small (take (e .args .self .words) (e .args .table .now)), own-long e)
 
 put-held-requires : tie.Need-put-held-requires
 put-held-requires c κs = search needs
@@ -27,14 +33,14 @@ same-length c = search needs
 
 returns : tie.Need-returns
 unfolding heldText
-returns c = (c .before .before .put-held .ensures .0, rw (c .before .before .before .before .live .ensures) at (c .before .before .put-held .ensures .1))
+returns c = rw (c .before .before .before .before .held .ensures) at (c .before .before .put-held .ensures)
 
 pub put-held-spec : {M : Type 1} → statement M
 put-held-spec =
     tie.close
     (tie.spec
-    slice-aggregate-live
-    live-requires
+    slice-aggregate-held
+    held-requires
     cast-put-held
     put-held-requires
     same-length

@@ -1,14 +1,12 @@
 -- The slot is that of `slotOn`, what is put is `lineText`, and what the switch has then is `lineAfter`.
 -- Assumes nothing.
 use Prim.Native.Nat.{_*_}
-use Rattle.program.specs.Turns.{on-zeros, line-refused, line-done, turns-line}
 use mathlib.Core.Path.{_≡_, sym, ap, _∙_}
 use native.Mathlib.Omega.{arith}
-use lib.ListN.{length, length-replicate}
+use lib.ListN.{length, take, length-replicate}
 use lib.Seq.{length-take-le}
-use borrow.Author.Tests.{not-true, not-false}
-use denote.Ref.{now}
-use Rattle.program.specs.Coming.{stateOf}
+use Rattle.rules.specs.Answers.{exhaledWidth}
+use Rattle.program.specs.Turns.{on-blank, turns-line}
 use borrow.Author.Needs.{needs}
 use Rattle.program.proofs.Running.run.Statement.{statement}
 use Rattle.program.proofs.Running.run.Tie as tie
@@ -16,20 +14,31 @@ use Rattle.program.proofs.Running.run.Tie as tie
 slice-relend-prefix-slot : tie.Need-slice-relend-prefix-slot
 slice-relend-prefix-slot c = search needs
 
+-- the words that are the switch's own
+own-long : (c : tie.Start) → length (take (c .args .self .words) (c .args .table .now)) ≡ c .args .self .words
+own-long c = length-take-le (c .args .self .words) (c .args .table .now) (omega (arith, c .pre .0 .sizes .words, c .pre .0 .room .table-long))
+
+abbrev entry : tie.After-slot-arg → tie.Start
+entry c = c .before .before .before .before .before .before .before
+
 slice-aggregate-slot : tie.Need-slice-aggregate-slot
-slice-aggregate-slot c = sym (length-take-le (c .before .before .before .before .before .before .before .before .args .self .words) (c .before .before .before .before .before .before .before .before .args .table .now) (omega (arith, c .before .before .before .before .before .before .before .before .pre .0 .words)))
+slice-aggregate-slot c = sym (own-long (entry c))
 
 slot-requires : tie.Need-slot-requires
-slot-requires c κs = tt
+slot-requires c κs = search needs
 
-is-done-requires : tie.Need-is-done-requires
-is-done-requires c κs = tt
+-- the slot ran with the words of the line and two blank lists
+abbrev called : tie.After-slot → tie.Start
+called c = entry (c .before .before .before)
 
-number-requires : tie.Need-number-requires
-number-requires c κs = tt
+blank-long : (c : tie.Start) → length (c .args .exhaled .now) ≡ c .args .self .crossbar .numbers .ports * exhaledWidth
+blank-long c = ap length (c .pre .1 .none-exhaled) ∙ length-replicate _ 0
 
-put-refused-requires : tie.Need-put-refused-requires
-put-refused-requires c κs = search needs
+put-outcome-requires : tie.Need-put-outcome-requires
+put-outcome-requires c κs =
+    let s = c .before .before .before .before .before .before .before .before in
+    let e = called s in
+    ((e .pre .0 .sizes .ports, omega (arith, s .slot .kept .1 .1 .1 .1 .0, blank-long e)), omega (arith, e .pre .0 .room .room))
 
 same-length : tie.Need-same-length
 same-length c = search needs
@@ -44,37 +53,13 @@ same-length-4 : tie.Need-same-length-4
 same-length-4 c = search needs
 
 returns : tie.Need-returns
-returns c = λ ws.
-    let a = c .before .before .before .before .before .before .before .before .before .before .before .before .before .before .before .before .before .before .before .before .before .before .before .before .before .args in
-    let o = on-zeros (stateOf (a .self) (now (a .table))) (now (a .arrivals)) (now (a .matches)) (now (a .exhaled)) _ (c .before .before .before .before .before .before .before .before .before .before .before .before .before .before .slot .ensures) (c .before .before .before .before .before .before .before .before .before .before .before .before .before .before .before .before .before .before .before .before .before .before .before .before .before .pre .1 .1 .0 .0) (c .before .before .before .before .before .before .before .before .before .before .before .before .before .before .before .before .before .before .before .before .before .before .before .before .before .pre .1 .1 .0 .1) in
-    let l = c .before .before .before .before .before .before .before .before .before .before .before .before .before .before .slot .kept .1 .0 ∙ length-take-le (a .self .words) (now (a .table)) (omega (arith, c .before .before .before .before .before .before .before .before .before .before .before .before .before .before .before .before .before .before .before .before .before .before .before .before .before .pre .0 .words, c .before .before .before .before .before .before .before .before .before .before .before .before .before .before .before .before .before .before .before .before .before .before .before .before .before .pre .1 .0)) in
-    let h = sym (c .before .before .before .before .before .before .is-done .ensures) ∙ not-true _ (c .before .before .before .before .before .if1 .taken) in
-    turns-line (a .self) (now (a .table)) (now (a .arrivals)) _ ws _ _ _ _ _ _ o (c .before .before .before .before .before .before .before .before .before .before .before .before .before .before .before .before .before .before .before .before .before .before .before .before .before .pre .0) l (line-refused _ _ _ o h) (rw (c .before .before .before .number .ensures) at (c .before .before .put-refused .ensures .1)) (omega (arith, c .before .before .put-refused .ensures .0))
-
-put-cells-requires : tie.Need-put-cells-requires
-put-cells-requires c κs = let a = c .before .before .before .before .before .before .before .before .before .before .before .before .before .before .before .before .before .before .before .before .before .before .args in
-    let e : length (now (a .exhaled)) ≡ a .self .crossbar .numbers .ports * 4 = ap length (c .before .before .before .before .before .before .before .before .before .before .before .before .before .before .before .before .before .before .before .before .before .before .pre .1 .1 .0 .1) ∙ length-replicate _ 0 in
-    ((c .before .before .before .before .before .before .before .before .before .before .before .before .before .before .before .before .before .before .before .before .before .before .pre .0 .ports, omega (arith, c .before .before .before .before .before .before .before .before .before .before .before .slot .kept .1 .1 .1 .1 .0, e)), omega (arith, c .before .before .before .before .before .before .before .before .before .before .before .before .before .before .before .before .before .before .before .before .before .before .pre .1 .1 .1))
-
-same-length-5 : tie.Need-same-length-5
-same-length-5 c = search needs
-
-same-length-6 : tie.Need-same-length-6
-same-length-6 c = search needs
-
-same-length-7 : tie.Need-same-length-7
-same-length-7 c = search needs
-
-same-length-8 : tie.Need-same-length-8
-same-length-8 c = search needs
-
-returns-2 : tie.Need-returns-2
-returns-2 c = λ ws.
-    let a = c .before .before .before .before .before .before .before .before .before .before .before .before .before .before .before .before .before .before .before .before .before .before .before .before .before .args in
-    let o = on-zeros (stateOf (a .self) (now (a .table))) (now (a .arrivals)) (now (a .matches)) (now (a .exhaled)) _ (c .before .before .before .before .before .before .before .before .before .before .before .before .before .before .slot .ensures) (c .before .before .before .before .before .before .before .before .before .before .before .before .before .before .before .before .before .before .before .before .before .before .before .before .before .pre .1 .1 .0 .0) (c .before .before .before .before .before .before .before .before .before .before .before .before .before .before .before .before .before .before .before .before .before .before .before .before .before .pre .1 .1 .0 .1) in
-    let l = c .before .before .before .before .before .before .before .before .before .before .before .before .before .before .slot .kept .1 .0 ∙ length-take-le (a .self .words) (now (a .table)) (omega (arith, c .before .before .before .before .before .before .before .before .before .before .before .before .before .before .before .before .before .before .before .before .before .before .before .before .before .pre .0 .words, c .before .before .before .before .before .before .before .before .before .before .before .before .before .before .before .before .before .before .before .before .before .before .before .before .before .pre .1 .0)) in
-    let h = sym (c .before .before .before .before .before .before .is-done .ensures) ∙ not-false _ (c .before .before .before .before .before .if1 .left) in
-    turns-line (a .self) (now (a .table)) (now (a .arrivals)) _ ws _ _ _ _ _ _ o (c .before .before .before .before .before .before .before .before .before .before .before .before .before .before .before .before .before .before .before .before .before .before .before .before .before .pre .0) l (line-done _ _ _ o h) (c .before .before .put-cells .ensures .1) (omega (arith, c .before .before .put-cells .ensures .0))
+returns c =
+    let p = c .before .before .before in
+    let s = p .before .before .before .before .before .before .before .before .before in
+    let e = called s in
+    let a = e .args in
+    let o = on-blank (a .self) (a .table .now) (a .arrivals .now) (a .matches .now) (a .exhaled .now) _ (s .slot .ensures) (e .pre .1) in
+    turns-line (a .self) (a .table .now) (a .arrivals .now) _ _ o (e .pre .0 .sizes) (s .slot .kept .1 .0 ∙ own-long e) (p .put-outcome .ensures)
 
 pub run-spec : {M : Type 1} → statement M
 run-spec =
@@ -83,17 +68,9 @@ run-spec =
     slice-relend-prefix-slot
     slice-aggregate-slot
     slot-requires
-    is-done-requires
-    number-requires
-    put-refused-requires
+    put-outcome-requires
     same-length
     same-length-2
     same-length-3
     same-length-4
-    returns
-    put-cells-requires
-    same-length-5
-    same-length-6
-    same-length-7
-    same-length-8
-    returns-2)
+    returns)

@@ -1,11 +1,14 @@
 -- What the field says is what its end answers; the tests are those of `written`.
 -- Assumes nothing.
-use mathlib.Core.Path.{sym, _∙_}
+use mathlib.Core.Path.{_≡_, sym, _∙_}
+use native.Mathlib.Numerals.{add-one}
+use Rattle.rules.specs.Answers.{arrivalWidth}
+use Rattle.text.specs.declared.Arrival.the-variants.{Words}
 use native.Mathlib.Omega.{arith}
-use Prim.Native.Nat.{_+_}
+use Prim.Native.Nat.{ℕ, _+_}
 use lib.ListN.{length, length-set}
 use borrow.Author.Tests.{le-leb, lt-leb}
-use Rattle.text.specs.Steps.{written, endField}
+use Rattle.text.specs.Steps.{fieldEnd, written, endField}
 use borrow.Author.Needs.{needs}
 use Rattle.text.proofs.SlotReader.end_field.Statement.{statement}
 use Rattle.text.proofs.SlotReader.end_field.Tie as tie
@@ -23,13 +26,29 @@ returns : tie.Need-returns
 unfolding endField written
 returns c = simp (sym (c .before .before .end .ensures) ∙ c .enum-told .given .1)
 
+-- what the field says, where its words would end, and how many words there are
+abbrev entry : tie.After-known-told → tie.Start
+entry c = c .before .before .before .before .before
+
+says : (c : tie.After-known-told) → fieldEnd (entry c .args .self .field) ≡ Words (c .before .output .given .0 .0) (c .before .output .given .0 .1 .0)
+says c = sym (c .before .before .before .end .ensures) ∙ c .before .output .given .1
+
+abbrev end : tie.After-known-told → ℕ
+end c = entry c .args .self .at + arrivalWidth
+
+abbrev size : tie.After-known-told → ℕ
+size c = length (entry c .args .words .now)
+
 returns-2 : tie.Need-returns-2
 unfolding endField written
-returns-2 c = simp (sym (c .before .before .before .before .end .ensures) ∙ c .before .before .output .given .1, lt-leb (c .before .before .before .before .before .before .args .self .at + 2) (length (c .before .before .before .before .before .before .args .words .now)) (omega arith))
+returns-2 c =
+    simp (says (c .before), lt-leb (end (c .before)) (size (c .before)) (omega arith))
 
 returns-3 : tie.Need-returns-3
 unfolding endField written
-returns-3 c = simp (sym (c .before .before .before .before .before .end .ensures) ∙ c .before .before .before .output .given .1, lt-leb (c .before .before .before .before .before .before .before .args .self .at + 2) (length (c .before .before .before .before .before .before .before .args .words .now)) (omega arith))
+returns-3 c =
+    let k = c .before .before in
+    simp (says k, lt-leb (end k) (size k) (omega arith))
 
 mul-words : tie.Need-mul-words
 mul-words c = search needs
@@ -54,7 +73,9 @@ same-length c = search needs
 
 returns-4 : tie.Need-returns-4
 unfolding endField written
-returns-4 c = simp (sym (c .before .before .before .before .before .end .ensures) ∙ c .before .before .before .output .given .1, le-leb (c .before .before .before .before .before .before .before .args .self .at + 2) (length (c .before .before .before .before .before .before .before .args .words .now)) (omega arith))
+returns-4 c =
+    let k = c .before .before in
+    simp (says k, le-leb (end k) (size k) (omega arith), add-one)
 
 pub end-field-spec : {M : Type 1} → statement M
 end-field-spec =

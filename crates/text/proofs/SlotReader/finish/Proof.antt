@@ -1,7 +1,7 @@
 -- The last field ends; `&&` and `==` are those of `isWhole`.
 -- Assumes nothing.
 use mathlib.Core.Path.{sym, ap, _∙_}
-use Rattle.text.specs.Steps.{Slot, isWhole}
+use Rattle.text.specs.Steps.{LineState, isComplete}
 use borrow.Author.Needs.{needs}
 use Rattle.text.proofs.SlotReader.finish.Statement.{statement}
 use Rattle.text.proofs.SlotReader.finish.Tie as tie
@@ -15,16 +15,23 @@ is-good-requires c κs = search needs
 same-length : tie.Need-same-length
 same-length c = search needs
 
+abbrev ended : tie.After-is-good → tie.After-end-field
+ended c = c .before .before .before
+
 returns : tie.Need-returns
-unfolding isWhole
-returns c = record { read = rw (← c .before .before .before .before .end-field .ensures) (rw (sym (c .before .is-good .ensures) ∙ c .if1 .taken)); left = ap (λ (s : Slot). s .words) (c .before .before .before .before .end-field .ensures) }
+unfolding isComplete
+returns c =
+    let e = ended (c .before) .end-field .ensures in
+    record { read = rw (← e) (rw (sym (c .before .is-good .ensures) ∙ c .if1 .taken)); left = ap (λ (s : LineState). s .words) e }
 
 same-length-2 : tie.Need-same-length-2
 same-length-2 c = search needs
 
 returns-2 : tie.Need-returns-2
-unfolding isWhole
-returns-2 c = record { read = rw (← c .before .before .before .before .end-field .ensures) (rw (c .if1 .left, sym (c .before .is-good .ensures) ∙ c .if1 .left)); left = ap (λ (s : Slot). s .words) (c .before .before .before .before .end-field .ensures) }
+unfolding isComplete
+returns-2 c =
+    let e = ended (c .before) .end-field .ensures in
+    record { read = rw (← e) (c .if1 .left ∙ rw (sym (c .before .is-good .ensures) ∙ c .if1 .left)); left = ap (λ (s : LineState). s .words) e }
 
 pub finish-spec : {M : Type 1} → statement M
 finish-spec =
