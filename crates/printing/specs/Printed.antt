@@ -54,13 +54,19 @@ heldLine n = bytes "held " ++ field n newline
 
 -- how long they get -----------------------------------------------------------------------------
 
--- a number of 32 bits has at most ten digits, and a byte behind it
-abbrev pub fieldBytes : ℕ
-fieldBytes = 10 + 1
+-- a number of 32 bits has at most ten digits; a field has a byte behind them
+abbrev pub numberBytes : ℕ
+numberBytes = 10
 
--- how many numbers a cell's line has; it is the longest line
+abbrev pub fieldBytes : ℕ
+fieldBytes = numberBytes + 1
+
+-- how many numbers a cell's line has: the slot and the output lead, and an entry's follow. It is the longest line.
+abbrev pub leadColumns : ℕ
+leadColumns = 2
+
 abbrev pub columns : ℕ
-columns = 5
+columns = leadColumns + 3
 
 abbrev pub lineBytes : ℕ
 lineBytes = columns * fieldBytes

@@ -14,7 +14,7 @@ use borrow.Author.Tests.{ltb-true, ltb-false, lt-ltb, le-ltb, le-leb}
 use Rattle.laws.specs.Tests.{join}
 use Rattle.laws.specs.Folds.{fold, fold-more, each, each-more}
 use Rattle.characters.specs.Characters.{firstDigit, lastDigit, isDigit, digitByte, push, value}
-use Rattle.printing.specs.Printed.{digits, decimal}
+use Rattle.printing.specs.Printed.{digits, decimal, numberBytes}
 
 -- `text` was put at `at` into what was `old` and is `new`, and ends at r: no byte but its own was written. It takes no more than `most` bytes.
 pub record Put (most : ℕ) (old : List ℕ) (at : ℕ) (text new : List ℕ) (r : ℕ) : Type 0 where
@@ -188,7 +188,7 @@ decimal-long (suc k) n h =
 pub decimal-count : (k n : ℕ) → 10 ^ k ≤ n → n < 10 ^ suc k → length (decimal n) ≡ suc k
 decimal-count k n l h = omega (arith, decimal-length k n h, decimal-long k n l)
 
-pub decimal-short : (n : ℕ) → n ≤ 4294967295 → length (decimal n) ≤ 10
+pub decimal-short : (n : ℕ) → n ≤ 4294967295 → length (decimal n) ≤ numberBytes
 decimal-short n h = decimal-length 9 n (omega arith)
 
 -- what is printed is a number's digits, and reads as the number

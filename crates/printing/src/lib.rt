@@ -4,16 +4,18 @@ use characters::NEWLINE;
 use characters::SPACE;
 ghost use Prim.Native.Nat.{_+_, _*_, _<_, _≤_};
 ghost use mathlib.Core.Path.{_≡_};
-ghost use mathlib.Core.List.{[], _∷_};
+ghost use mathlib.Core.List.{[], _∷_, _++_};
 ghost use lib.ListN.{length};
-ghost use Rattle.characters.specs.Characters.{digitByte};
+ghost use Rattle.characters.specs.Characters.{newline, digitByte};
 ghost use Rattle.printing.specs.Printed.{decimal, field, byteAfter, numbersLine, headerLine, cellLine};
-ghost use Rattle.printing.specs.Printed.{refusedLine, unreadableLine, heldLine, fieldBytes, columns, lineBytes};
+ghost use Rattle.printing.specs.Printed.{refusedLine, unreadableLine, heldLine, fieldBytes, leadColumns, columns, lineBytes};
 ghost use Rattle.printing.specs.Prints.{Put};
 
-// A number's digits and the byte behind it; the numbers of a cell's line, and so the bytes of the longest line. `fieldBytes`, `columns` and
-// `lineBytes` of specs/Printed.antt are the same for contracts.
-const FIELD_BYTES: usize = 11;
+// The digits of the longest number, and the byte behind them; the numbers of a cell's line, and so the bytes of the longest line.
+// `numberBytes`, `fieldBytes`, `columns` and `lineBytes` of specs/Printed.antt are the same for contracts.
+const NUMBER_BYTES: usize = 10;
+
+const FIELD_BYTES: usize = NUMBER_BYTES + 1;
 
 const COLUMNS: usize = 5;
 
@@ -37,21 +39,19 @@ pub fn put_refused(buf: &mut [u8], at: usize, number: u32) -> usize
     requires { ⌜ at + lineBytes ≤ length (now buf) ⌝ }
     ensures { λ r. ⌜ Put lineBytes (now (buf .entry)) at (refusedLine number) (now (buf .exit)) r ⌝ }
 {
-    let next = put_text(buf, at, b"refused ");
-    put_field(buf, next, number, NEWLINE)
+    put_message(buf, at, b"refused ", number)
 }
 
 pub fn put_held(buf: &mut [u8], at: usize, live: u32) -> usize
     requires { ⌜ at + lineBytes ≤ length (now buf) ⌝ }
     ensures { λ r. ⌜ Put lineBytes (now (buf .entry)) at (heldLine live) (now (buf .exit)) r ⌝ }
 {
-    let next = put_text(buf, at, b"held ");
-    put_field(buf, next, live, NEWLINE)
+    put_message(buf, at, b"held ", live)
 }
 
 // A cell's line: its numbers are the slot, the output, and all that the entry says of the cell.
 pub fn put_cell(buf: &mut [u8], at: usize, slot: u32, output: u32, entry: &[u32]) -> usize
-    requires columns { ⌜ 2 + length (now entry) ≤ columns ⌝ }
+    requires columns { ⌜ leadColumns + length (now entry) ≤ columns ⌝ }
     requires room { ⌜ at + lineBytes ≤ length (now buf) ⌝ }
     ensures { λ r. ⌜ Put lineBytes (now (buf .entry)) at (cellLine slot output (now (entry .entry))) (now (buf .exit)) r ⌝ }
 {
@@ -77,6 +77,15 @@ fn byte_after(i: usize, count: usize) -> u8
     ensures { λ r. ⌜ r ≡ byteAfter i count ⌝ }
 {
     if i + 1 == count { NEWLINE } else { SPACE }
+}
+
+// A word, and a number behind it.
+fn put_message(buf: &mut [u8], at: usize, word: &[u8], number: u32) -> usize
+    requires { ⌜ at + length (now word) + fieldBytes ≤ length (now buf) ⌝ }
+    ensures { λ r. ⌜ Put (length (now (word .entry)) + fieldBytes) (now (buf .entry)) at (now (word .entry) ++ field number newline) (now (buf .exit)) r ⌝ }
+{
+    let next = put_text(buf, at, word);
+    put_field(buf, next, number, NEWLINE)
 }
 
 fn put_text(buf: &mut [u8], at: usize, text: &[u8]) -> usize

@@ -1,15 +1,15 @@
--- A number has at most ten digits, and the byte stands behind them.
+-- A number's digits are few enough, and the byte stands behind them.
 -- Assumes nothing.
 use native.Mathlib.Omega.{arith}
 use Prim.Native.Nat.{_≤_}
 use lib.ListN.{length}
-use Rattle.printing.specs.Printed.{decimal, field}
+use Rattle.printing.specs.Printed.{decimal, field, numberBytes}
 use Rattle.printing.specs.Prints.{put-then, decimal-short}
 use borrow.Author.Needs.{needs}
 use Rattle.printing.proofs.put_field.Statement.{statement}
 use Rattle.printing.proofs.put_field.Tie as tie
 
-short : (c : tie.Start) → length (decimal (c .args .number)) ≤ 10
+short : (c : tie.Start) → length (decimal (c .args .number)) ≤ numberBytes
 short c = decimal-short (c .args .number) (omega arith)
 
 put-number-requires : tie.Need-put-number-requires

@@ -1,4 +1,4 @@
--- The last field ends; `&&` and `==` are those of `isWhole`.
+-- The last field ends; `&&` and `==` are those of `isComplete`.
 -- Assumes nothing.
 use mathlib.Core.Path.{sym, ap, _∙_}
 use Rattle.text.specs.Steps.{LineState, isComplete}
