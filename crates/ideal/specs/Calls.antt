@@ -32,7 +32,7 @@ use Rattle.ideal.specs.Inhale.{inhale-is, inhale-fit}
 use Rattle.ideal.specs.Exhale.{exhale-fit}
 use Rattle.ideal.specs.Meets.{fit-single, fresh-meets, inhale-meets, transfer-meets, exhale-meets}
 use Rattle.ideal.specs.Only.{Distinct, fit-distinct}
-use Rattle.ideal.specs.Refusals.{refuses, sameAnswer, holdsFor, passed, is-done, done-both}
+use Rattle.ideal.specs.Refusals.{refuses, sameAnswer, holdsFor, passed, is-done, group-both}
 
 -- What is accepted -------------------------------------------------------------------------------
 
@@ -116,11 +116,11 @@ module _ (w : Switch) (table : List ℕ) (l : Lists) where
   pub accepted→ : So (isDone (slotAnswer w table l)) → Accepted w table l
   unfolding slotAnswer refuses isDone
   accepted→ h =
-      let s = done-both (sizeChecks w table) _ refl h in
-      let t = done-both (tableChecks w table) _ refl (s .1) in
-      let m = done-both (listChecks w l) _ refl (t .1) in
-      let a = done-both (arrivalChecks w (l .arrivals)) _ refl (m .1) in
-      let c = done-both (clockChecks w) _ refl (a .1) in
+      let s = group-both (sizeChecks w table) _ refl h in
+      let t = group-both (tableChecks w table) _ refl (s .1) in
+      let m = group-both (listChecks w l) _ refl (t .1) in
+      let a = group-both (arrivalChecks w (l .arrivals)) _ refl (m .1) in
+      let c = group-both (clockChecks w) _ refl (a .1) in
       record {
         sizes = sizes-passed w table (s .0);
         fits = table-passed w table (t .0);

@@ -1,4 +1,4 @@
--- "Given exactly when": a number is given when its row holds and no row above it does, and 0 when none holds. A row is looked up by its answer and
+-- "GivenFor exactly when": a number is given when its row holds and no row above it does, and 0 when none holds. A row is looked up by its answer and
 -- never by its position. For any rows with answers of their own, so for those of a fresh start and of a slot, and for each group of them.
 -- Assumes nothing.
 use mathlib.Core.Path.{_≡_, refl, sym, ap, _∙_}
@@ -48,7 +48,7 @@ ownAnswers (c ∷ cs) = not (hasRow (c .answer) cs) && ownAnswers cs
 -- What is given ----------------------------------------------------------------------------------
 
 -- a row's answer is given when the row holds and none above it does
-pub record Given (a : Answer) (cs : List Check) : Type 0 where
+pub record GivenFor (a : Answer) (cs : List Check) : Type 0 where
   pub holds : So (holdsFor a cs)
   pub none-above : No (anyHolds (above a cs))
 
@@ -84,17 +84,17 @@ module _ (a : Answer) (c : Check) (cs : List Check) where
     unfolding holdsFor
     at-first = cond-true _ (c .holds) (holdsFor a cs) s
 
-    first→ : No (isDone a) → No (hasRow a cs) → So (sameAnswer a (firstOf (c ∷ cs))) → Given a (c ∷ cs)
+    first→ : No (isDone a) → No (hasRow a cs) → So (sameAnswer a (firstOf (c ∷ cs))) → GivenFor a (c ∷ cs)
     unfolding above anyHolds
     first→ d own e = ⊎-elim here later (passes (c .holds))
       where
-        here : So (c .holds) → Given a (c ∷ cs)
+        here : So (c .holds) → GivenFor a (c ∷ cs)
         here h = record { holds = at-first ∙ h; none-above = ap anyHolds (cond-true _ [] (c ∷ above a cs) s) }
 
-        later : No (c .holds) → Given a (c ∷ cs)
+        later : No (c .holds) → GivenFor a (c ∷ cs)
         later h = ⊎-elim (λ x. absurd (refuted x own)) (λ x. absurd (refuted x d)) (of-a-row cs a (ap (sameAnswer a) (sym (first-later c cs h)) ∙ e))
 
-    →first : Given a (c ∷ cs) → So (sameAnswer a (firstOf (c ∷ cs)))
+    →first : GivenFor a (c ∷ cs) → So (sameAnswer a (firstOf (c ∷ cs)))
     →first g = ap (sameAnswer a) (first-holds c cs (sym at-first ∙ g .holds)) ∙ s
 
   -- it is a row further down
@@ -107,18 +107,18 @@ module _ (a : Answer) (c : Check) (cs : List Check) where
     unfolding above anyHolds
     below-first = ap anyHolds (cond-false _ [] (c ∷ above a cs) s)
 
-    later→ : (So (sameAnswer a (firstOf cs)) → Given a cs) → So (sameAnswer a (firstOf (c ∷ cs))) → Given a (c ∷ cs)
+    later→ : (So (sameAnswer a (firstOf cs)) → GivenFor a cs) → So (sameAnswer a (firstOf (c ∷ cs))) → GivenFor a (c ∷ cs)
     later→ f e = ⊎-elim here later (passes (c .holds))
       where
-        here : So (c .holds) → Given a (c ∷ cs)
+        here : So (c .holds) → GivenFor a (c ∷ cs)
         here h = absurd (refuted (ap (sameAnswer a) (sym (first-holds c cs h)) ∙ e) s)
 
-        later : No (c .holds) → Given a (c ∷ cs)
+        later : No (c .holds) → GivenFor a (c ∷ cs)
         later h =
             let g = f (ap (sameAnswer a) (sym (first-later c cs h)) ∙ e) in
             record { holds = further ∙ g .holds; none-above = below-first ∙ rw h (g .none-above) }
 
-    →later : (Given a cs → So (sameAnswer a (firstOf cs))) → Given a (c ∷ cs) → So (sameAnswer a (firstOf (c ∷ cs)))
+    →later : (GivenFor a cs → So (sameAnswer a (firstOf cs))) → GivenFor a (c ∷ cs) → So (sameAnswer a (firstOf (c ∷ cs)))
     →later f g =
         let n = neither (c .holds) (anyHolds (above a cs)) (sym below-first ∙ g .none-above) in
         ap (sameAnswer a) (first-later c cs (n .0)) ∙ f (record { holds = sym further ∙ g .holds; none-above = n .1 })
@@ -130,7 +130,7 @@ same-row a b s [] = refl
 same-row a b s (c ∷ cs) = let q : numberOf a ≡ numberOf b = eqb-true _ _ s in rw (q, same-row a b s cs)
 
 -- the answer of a row is given exactly when that row holds and none above it does
-given→ : (cs : List Check) → So (ownAnswers cs) → (a : Answer) → No (isDone a) → So (sameAnswer a (firstOf cs)) → Given a cs
+given→ : (cs : List Check) → So (ownAnswers cs) → (a : Answer) → No (isDone a) → So (sameAnswer a (firstOf cs)) → GivenFor a cs
 unfolding ownAnswers firstOf sameAnswer isDone
 given→ [] own a d e = absurd (refuted e d)
 given→ (c ∷ cs) own a d e =
@@ -140,12 +140,12 @@ given→ (c ∷ cs) own a d e =
     (λ s. later→ a c cs s (given→ cs (b .1) a d) e)
     (passes (sameAnswer a (c .answer)))
 
-→given : (cs : List Check) (a : Answer) → Given a cs → So (sameAnswer a (firstOf cs))
+→given : (cs : List Check) (a : Answer) → GivenFor a cs → So (sameAnswer a (firstOf cs))
 unfolding holdsFor
 →given [] a g = absurd (false≢true (g .holds))
 →given (c ∷ cs) a g = ⊎-elim (λ s. →first a c cs s g) (λ s. →later a c cs s (→given cs a) g) (passes (sameAnswer a (c .answer)))
 
-pub given : (cs : List Check) → So (ownAnswers cs) → (a : Answer) → No (isDone a) → (numberOf (firstOf cs) ≡ numberOf a) ↔ Given a cs
+pub given : (cs : List Check) → So (ownAnswers cs) → (a : Answer) → No (isDone a) → (numberOf (firstOf cs) ≡ numberOf a) ↔ GivenFor a cs
 unfolding sameAnswer
 given cs own a d = (λ e. given→ cs own a d (eq-eqb _ _ (sym e)), λ g. sym (eqb-true _ _ (→given cs a g)))
 
@@ -201,20 +201,20 @@ first-append (c ∷ cs) ds r = go (c .holds) (first-append cs ds (refuses-here c
     go false e = e
 
 module _ (cs ds : List Check) (r : So (refuses cs)) where
-  pub stops : No (isDone (firstOf cs)) → firstOf (cs ++ ds) ≡ firstOf cs
-  stops h = first-append cs ds r ∙ cond-false _ (firstOf ds) (firstOf cs) h
+  pub group-stops : No (isDone (firstOf cs)) → firstOf (cs ++ ds) ≡ firstOf cs
+  group-stops h = first-append cs ds r ∙ cond-false _ (firstOf ds) (firstOf cs) h
 
-  pub goes-on : So (isDone (firstOf cs)) → firstOf (cs ++ ds) ≡ firstOf ds
-  goes-on h = first-append cs ds r ∙ cond-true _ (firstOf ds) (firstOf cs) h
+  pub group-goes-on : So (isDone (firstOf cs)) → firstOf (cs ++ ds) ≡ firstOf ds
+  group-goes-on h = first-append cs ds r ∙ cond-true _ (firstOf ds) (firstOf cs) h
 
   -- both groups are passed where all rows are
-  pub done-both : So (isDone (firstOf (cs ++ ds))) → So (isDone (firstOf cs)) × So (isDone (firstOf ds))
-  done-both h = ⊎-elim (λ x. (x, ap isDone (sym (goes-on x)) ∙ h)) (λ x. absurd (refuted (ap isDone (sym (stops x)) ∙ h) x)) (passes (isDone (firstOf cs)))
+  pub group-both : So (isDone (firstOf (cs ++ ds))) → So (isDone (firstOf cs)) × So (isDone (firstOf ds))
+  group-both h = ⊎-elim (λ x. (x, ap isDone (sym (group-goes-on x)) ∙ h)) (λ x. absurd (refuted (ap isDone (sym (group-stops x)) ∙ h) x)) (passes (isDone (firstOf cs)))
 
 -- The two calls ----------------------------------------------------------------------------------
 
 module _ (w : Switch) (table : List ℕ) where
-  pub fresh-given : (a : Answer) → No (isDone a) → (numberOf (freshAnswer w table) ≡ numberOf a) ↔ Given a (freshChecks w table)
+  pub fresh-given : (a : Answer) → No (isDone a) → (numberOf (freshAnswer w table) ≡ numberOf a) ↔ GivenFor a (freshChecks w table)
   unfolding ownAnswers hasRow sameAnswer freshAnswer
   fresh-given = given (freshChecks w table) refl
 
@@ -222,7 +222,7 @@ module _ (w : Switch) (table : List ℕ) where
   unfolding refuses isDone freshAnswer
   fresh-done = given-done (freshChecks w table) refl
 
-  pub slot-given : (l : Lists) (a : Answer) → No (isDone a) → (numberOf (slotAnswer w table l) ≡ numberOf a) ↔ Given a (slotChecks w table l)
+  pub slot-given : (l : Lists) (a : Answer) → No (isDone a) → (numberOf (slotAnswer w table l) ≡ numberOf a) ↔ GivenFor a (slotChecks w table l)
   unfolding ownAnswers hasRow sameAnswer slotAnswer
   slot-given l = given (slotChecks w table l) refl
 

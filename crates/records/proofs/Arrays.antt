@@ -30,7 +30,7 @@ use denote.ArrayMemory.{Single, array-apart, array-whole}
 use denote.Index.{row}
 use denote.Steps.{peeks, nothing}
 use borrow.Table.OneValue.{part-out, part-in}
-use Rattle.records.specs.Records.{tableWords}
+use Rattle.records.specs.Records.{mostWords}
 
 module _ {M : Type 1} (𝓤 : URA M) (H : Heap 𝓤) (A : Atoms 𝓤) (W : Given 𝓤 H A) (R : RattleType) (one : Single (R .mir)) (n : ℕ) (xs : List (R .Denot)) where
   pub opens-array : (v : Val) (l : ℕ) → ent 𝓤 (sep 𝓤 (H .at fullShare (tyArray (lone (R .mir)) n) l 0 v) (sem 𝓤 H A (Array R n .own xs (v ∷ []))))
@@ -77,11 +77,11 @@ module _ (R : RattleType) (b : ℕ) where
         use2 W (‵ (row R fullShare xs b (o + mem R .size))) (join-front xs k (o + mem R .size)) $ move ! (1 ∷ 0 ∷ []) $ fjoin ! $ done !
 
 abbrev pub Words : RattleType
-Words = Array u32 tableWords
+Words = Array u32 mostWords
 
 module _ {M : Type 1} (𝓤 : URA M) (H : Heap 𝓤) (A : Atoms 𝓤) (W : Given 𝓤 H A) where
-  pub words-ok : (ws : List ℕ) (v : Val) → Is Words ws (v ∷ []) → Holds (hasTy (tyArray (tyInt w32) tableWords) v) × WT v
-  words-ok ws v is = array-lawful 𝓤 H A W u32 (uint-lawful 𝓤 H A W w32) tableWords .typed ws (v ∷ []) is .0
+  pub words-ok : (ws : List ℕ) (v : Val) → Is Words ws (v ∷ []) → Holds (hasTy (tyArray (tyInt w32) mostWords) v) × WT v
+  words-ok ws v is = array-lawful 𝓤 H A W u32 (uint-lawful 𝓤 H A W w32) mostWords .typed ws (v ∷ []) is .0
 
   pub words-make : Makes 𝓤 H A Words (Is Words)
-  words-make = array-makes 𝓤 H A W u32 (uint-makes 𝓤 H A W w32) tableWords
+  words-make = array-makes 𝓤 H A W u32 (uint-makes 𝓤 H A W w32) mostWords

@@ -17,7 +17,7 @@ use Rattle.rules.specs.declared.Cell.{Cell}
 use Rattle.rules.specs.Cells.{mostRecords, width, records, nth, fields, cellsOf, wordsOf}
 use Rattle.words.specs.Words.{length-wordsOf, wordsOf-at, cellsOf-wordsOf, store-with}
 use Rattle.table.specs.Table.{stored}
-use Rattle.records.specs.Records.{findingOf, tableWords, answered, wordsToLay, Laid}
+use Rattle.records.specs.Records.{findingOf, mostWords, answered, wordsToLay, Laid}
 use Rattle.records.specs.declared.Finding.the-variants.{TooMany}
 
 -- the words to lay are no more than there are, and no more than there is room for
@@ -25,7 +25,7 @@ pub within-records : (n : ℕ) → wordsToLay n ≤ n * width
 unfolding wordsToLay
 within-records n = ⊎-elim (λ few. rw few (omega arith)) (λ many. rw many (omega arith)) (passes (leb n mostRecords))
 
-pub within-room : (n : ℕ) → wordsToLay n ≤ tableWords
+pub within-room : (n : ℕ) → wordsToLay n ≤ mostWords
 unfolding wordsToLay
 within-room n = ⊎-elim (λ few. let l : n ≤ mostRecords = leb-true n mostRecords few in rw few (omega arith)) (λ many. rw many (omega arith))
     (passes (leb n mostRecords))
@@ -39,10 +39,10 @@ alone ws c r e l =
 
 -- the first j words of ws are those of cs
 pub record LaidTo (cs : List Cell) (j : ℕ) (ws : List ℕ) : Type 0 where
-  pub long : length ws ≡ tableWords
+  pub long : length ws ≡ mostWords
   pub same : (i : ℕ) → i < j → getD ws i 0 ≡ getD (wordsOf cs) i 0
 
-pub none-laid : (cs : List Cell) (ws : List ℕ) → length ws ≡ tableWords → LaidTo cs 0 ws
+pub none-laid : (cs : List Cell) (ws : List ℕ) → length ws ≡ mostWords → LaidTo cs 0 ws
 none-laid cs ws e = record { long = e; same = λ i l. absurd (omega arith) }
 
 -- word j is field j % width of record j / width

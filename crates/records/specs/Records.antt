@@ -20,9 +20,9 @@ abbrev pub findingOf : Found → Finding
 findingOf (found.At k) = At k
 findingOf found.Nothing = Nothing
 
--- the words of as many records as a table may have: `TABLE_WORDS` of the source
-abbrev pub tableWords : ℕ
-tableWords = mostRecords * width
+-- the words of as many records as a table may have: `MOST_WORDS` of the source
+abbrev pub mostWords : ℕ
+mostWords = mostRecords * width
 
 -- what was found in a list of n records, where there are not too many
 unfoldable pub answered : ℕ → Found → Finding
@@ -48,5 +48,5 @@ wordsToLay n = cond (leb n mostRecords) (n * width) 0
 
 -- ws begin with the words of cs, where these are not too many
 pub record Laid (cs : List Cell) (ws : List ℕ) : Type 0 where
-  pub long : length ws ≡ tableWords
+  pub long : length ws ≡ mostWords
   pub words : length cs ≤ mostRecords → take (length cs * width) ws ≡ wordsOf cs

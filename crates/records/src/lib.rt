@@ -11,7 +11,7 @@ ghost use Rattle.rules.specs.Phases.{lowestFree, oldestReady};
 ghost use Rattle.records.specs.Records.{findingOf, answered, lowestFreeOf, oldestReadyOf, wordsToLay, Laid};
 
 // The words of as many records as a table may have.
-const TABLE_WORDS: usize = rules::MOST_RECORDS * rules::RECORD_WORDS;
+const MOST_WORDS: usize = rules::MOST_RECORDS * rules::RECORD_WORDS;
 
 // What a scan over records answers: what it found, or that the list has more records than a table may.
 pub enum Finding {
@@ -49,10 +49,10 @@ fn words_to_lay(n: usize) -> usize
 }
 
 // The records, laid out as words.
-fn lay_out(cells: &[Cell]) -> [u32; TABLE_WORDS]
+fn lay_out(cells: &[Cell]) -> [u32; MOST_WORDS]
     ensures { λ r. ⌜ Laid (now (cells .entry)) r ⌝ }
 {
-    let mut words = [0; TABLE_WORDS];
+    let mut words = [0; MOST_WORDS];
     let end = words_to_lay(cells.len());
     let mut j = 0;
     while j < end {
@@ -63,7 +63,7 @@ fn lay_out(cells: &[Cell]) -> [u32; TABLE_WORDS]
 }
 
 // The first n records of a table that is held by value, laid out as words.
-fn lay_out_first(table: [Cell; rules::MOST_RECORDS], n: usize) -> [u32; TABLE_WORDS]
+fn lay_out_first(table: [Cell; rules::MOST_RECORDS], n: usize) -> [u32; MOST_WORDS]
     requires { ⌜ n ≤ mostRecords ⌝ }
     ensures { λ r. ⌜ Laid (take n table) r ⌝ }
 {
@@ -71,7 +71,7 @@ fn lay_out_first(table: [Cell; rules::MOST_RECORDS], n: usize) -> [u32; TABLE_WO
 }
 
 // The scans of the first n records of words laid out.
-fn lowest_free_in(words: [u32; TABLE_WORDS], n: usize) -> Finding
+fn lowest_free_in(words: [u32; MOST_WORDS], n: usize) -> Finding
     ensures { λ r. ⌜ r ≡ answered n (lowestFree (cellsOf (take (n * width) words))) ⌝ }
 {
     if rules::MOST_RECORDS < n {
@@ -80,7 +80,7 @@ fn lowest_free_in(words: [u32; TABLE_WORDS], n: usize) -> Finding
     told(table::lowest_free(&words[..n * rules::RECORD_WORDS]))
 }
 
-fn oldest_ready_in(words: [u32; TABLE_WORDS], n: usize, o: Output) -> Finding
+fn oldest_ready_in(words: [u32; MOST_WORDS], n: usize, o: Output) -> Finding
     ensures { λ r. ⌜ r ≡ answered n (oldestReady (cellsOf (take (n * width) words)) o) ⌝ }
 {
     if rules::MOST_RECORDS < n {

@@ -22,7 +22,7 @@ use Rattle.matching.specs.Ready.{Orderly}
 use Rattle.buffers.specs.Inhale.{length-inhale}
 
 -- the table and the two lists that an accepted slot leaves
-pub record Ran (w : Switch) (table arrivals table′ matches exhaled : List ℕ) : Type 0 where
+pub record SlotRan (w : Switch) (table arrivals table′ matches exhaled : List ℕ) : Type 0 where
   pub cells : table′ ≡ slotRuns w table arrivals .table
   pub matched : matches ≡ slotRuns w table arrivals .matches
   pub emitted : exhaled ≡ slotRuns w table arrivals .exhaled
@@ -49,7 +49,7 @@ module _ {w : Switch} {table : List ℕ} {l : Lists} (a : Accepted w table l) wh
 
   pub runs : (t1 t2 t3 m e r : List ℕ) → t1 ≡ withRecords table full → r ≡ readings (cellsOf t1)
       → t2 ≡ withRecords t1 (phases (w .ports) r (cellsOf t1) (w .speedup)) → m ≡ matchesOf (w .ports) r (cellsOf t1) (w .speedup)
-      → t3 ≡ withRecords t2 (exhale (w .ports) (cellsOf t2)) → e ≡ exhaledOf (w .ports) (cellsOf t2) → Ran w table arrivals t3 m e
+      → t3 ≡ withRecords t2 (exhale (w .ports) (cellsOf t2)) → e ≡ exhaledOf (w .ports) (cellsOf t2) → SlotRan w table arrivals t3 m e
   unfolding slotRuns entered transferred
   runs t1 t2 t3 m e r h1 hr h2 hm h3 he =
       record {

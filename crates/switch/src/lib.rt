@@ -6,7 +6,7 @@ ghost use Rattle.rules.specs.Cells.{cellsOf};
 ghost use Rattle.rules.specs.Answers.{lists, live};
 ghost use Rattle.rules.specs.Calls.{freshStart, slot, slotRuns};
 ghost use Rattle.ideal.specs.Calls.{Accepted};
-ghost use Rattle.switch.specs.Calls.{Ran};
+ghost use Rattle.switch.specs.Calls.{SlotRan};
 
 // The switch as its owner holds it.
 pub struct Crossbar {
@@ -81,7 +81,7 @@ pub fn held(table: &[u32]) -> usize
 // An accepted slot.
 fn run(w: Switch, table: &mut [u32], arrivals: &[u32], matches: &mut [u32], exhaled: &mut [u32])
     requires { ⌜ Accepted w (now table) (lists (now arrivals) (now matches) (now exhaled)) ⌝ }
-    ensures { λ _. ⌜ Ran w (now (table .entry)) (now (arrivals .entry)) (now (table .exit)) (now (matches .exit)) (now (exhaled .exit)) ⌝ }
+    ensures { λ _. ⌜ SlotRan w (now (table .entry)) (now (arrivals .entry)) (now (table .exit)) (now (matches .exit)) (now (exhaled .exit)) ⌝ }
 {
     buffers::inhale(table, arrivals, w.ports, w.next);
     let r = table::read(table);

@@ -12,7 +12,7 @@ use Rattle.rules.specs.declared.Switch.{Switch}
 use Rattle.rules.specs.declared.Answer.{Answer}
 use Rattle.rules.specs.Answers.{Lists, lists, arrivalWidth, isDone, Check, firstOf, slotAnswer}
 use Rattle.rules.specs.Answers.{sizeChecks, tableChecks, listChecks, arrivalChecks, clockChecks, roomChecks}
-use Rattle.ideal.specs.Refusals.{refuses, stops, goes-on}
+use Rattle.ideal.specs.Refusals.{refuses, group-stops, group-goes-on}
 use Rattle.ideal.specs.Calls.{sizes-passed, lists-passed}
 use Rattle.checks.specs.Checks.{group-passed, group-refused}
 use Rattle.checks.proofs.check_slot.Statement.{statement}
@@ -61,7 +61,7 @@ sizes-done c = group-passed (c .before .before .check-sizes .ensures) (c .before
 
 behind-sizes : (c : tie.Else1) → Answers (sizes-at c) (fromTable (sizes-at c))
 unfolding slotAnswer refuses isDone
-behind-sizes c = goes-on (sizeChecks (w (sizes-at c)) (table (sizes-at c))) (fromTable (sizes-at c)) refl (sizes-done c)
+behind-sizes c = group-goes-on (sizeChecks (w (sizes-at c)) (table (sizes-at c))) (fromTable (sizes-at c)) refl (sizes-done c)
 
 abbrev table-at : tie.Else2 → tie.Start
 table-at c = sizes-at (c .before .before .before)
@@ -70,7 +70,7 @@ behind-table : (c : tie.Else2) → Answers (table-at c) (fromLists (table-at c))
 unfolding refuses isDone
 behind-table c =
     behind-sizes (c .before .before .before)
-    ∙ goes-on (tableChecks (w (table-at c)) (table (table-at c))) (fromLists (table-at c)) refl
+    ∙ group-goes-on (tableChecks (w (table-at c)) (table (table-at c))) (fromLists (table-at c)) refl
     (group-passed (c .before .before .check-table .ensures) (c .before .is-done2 .ensures) (c .if2 .left))
 
 abbrev lists-at : tie.Else3 → tie.Start
@@ -81,7 +81,7 @@ lists-done c = group-passed (c .before .before .check-lists .ensures) (c .before
 
 behind-lists : (c : tie.Else3) → Answers (lists-at c) (fromArrivals (lists-at c))
 unfolding refuses isDone
-behind-lists c = behind-table (c .before .before .before) ∙ goes-on (listChecks (w (lists-at c)) (ls (lists-at c))) (fromArrivals (lists-at c)) refl (lists-done c)
+behind-lists c = behind-table (c .before .before .before) ∙ group-goes-on (listChecks (w (lists-at c)) (ls (lists-at c))) (fromArrivals (lists-at c)) refl (lists-done c)
 
 -- the arrivals that the lists check found long enough
 long : (c : tie.Else3) → w (lists-at c) .ports * arrivalWidth ≤ length (ls (lists-at c) .arrivals)
@@ -94,7 +94,7 @@ behind-arrivals : (c : tie.Else4) → Answers (arrivals-at c) (fromClock (arriva
 unfolding refuses isDone
 behind-arrivals c =
     behind-lists (c .before .before .before)
-    ∙ goes-on (arrivalChecks (w (arrivals-at c)) (ls (arrivals-at c) .arrivals)) (fromClock (arrivals-at c)) refl
+    ∙ group-goes-on (arrivalChecks (w (arrivals-at c)) (ls (arrivals-at c) .arrivals)) (fromClock (arrivals-at c)) refl
     (group-passed (c .before .before .check-arrivals .ensures) (c .before .is-done4 .ensures) (c .if4 .left))
 
 abbrev clock-at : tie.Else5 → tie.Start
@@ -104,13 +104,13 @@ behind-clock : (c : tie.Else5) → Answers (clock-at c) (fromRoom (clock-at c))
 unfolding refuses isDone
 behind-clock c =
     behind-arrivals (c .before .before .before)
-    ∙ goes-on (clockChecks (w (clock-at c))) (fromRoom (clock-at c)) refl
+    ∙ group-goes-on (clockChecks (w (clock-at c))) (fromRoom (clock-at c)) refl
     (group-passed (c .before .before .check-clock .ensures) (c .before .is-done5 .ensures) (c .if5 .left))
 
 -- a group that is not passed answers for the rows from it on
 module _ (s : tie.Start) (cs ds : List Check) (r : So (refuses cs)) where
   answers : {g : Answer} {b : Bool} → Answers s (cs ++ ds) → g ≡ firstOf cs → b ≡ isDone g → So (not b) → g ≡ slotAnswer (w s) (table s) (ls s)
-  answers h e d t = e ∙ sym (h ∙ stops cs ds r (group-refused e d t))
+  answers h e d t = e ∙ sym (h ∙ group-stops cs ds r (group-refused e d t))
 
 -- The needs ----------------------------------------------------------------------------------------
 

@@ -51,7 +51,7 @@ use Rattle.rules.specs.declared.Cell.{Cell}
 use Rattle.rules.specs.Cells.{width, nth, fields}
 use Rattle.rules.proofs.Cell as T
 use Rattle.rules.proofs.Cell.Laws as T′
-use Rattle.records.specs.Records.{tableWords, wordsToLay, Laid}
+use Rattle.records.specs.Records.{mostWords, wordsToLay, Laid}
 use Rattle.records.specs.Layout.{within-records, within-room, LaidTo, none-laid, one-more, all-laid}
 use Rattle.records.proofs.Arrays.{opens-array, closes-array, Words, words-ok, words-make}
 use Rattle.records.proofs.Calls.{calls-plain}
@@ -87,7 +87,7 @@ abbrev slice : Ty
 slice = sliceTy (tyRef (named 0) imm (pointee (T.the-row .written)))
 
 abbrev array : Ty
-array = tyArray (tyInt w32) tableWords
+array = tyArray (tyInt w32) mostWords
 
 module _ {M : Type 1} (𝓤 : URA M) (H : Heap 𝓤) (A : Atoms 𝓤) (mem : Memory → SProp 𝓤) (run : Routine → Fun 𝓤) where
   -- the contracts that the proof cites, and of what each ensures the clause alone
@@ -230,7 +230,7 @@ module _ {M : Type 1} (𝓤 : URA M) (H : Heap 𝓤) (A : Atoms 𝓤) (W : Given
         }) (add-one-dec end (t .j) (below less))))))
         (λ over. exec ! C Λ En code-mir.t-6 (atRet En Post) $ move ! (2 ∷ []) $
         use1 W (some (λ (v : Val). given (Is Words (t .zs) (v ∷ [])) (‵ (fat fullShare array l₂ 0 v))))
-        (closes-array 𝓤 H A W u32 tt tableWords (t .zs) (t .so-far .long) l₂) $ pick ! (λ v. learn ! (λ is.
+        (closes-array 𝓤 H A W u32 tt mostWords (t .zs) (t .so-far .long) l₂) $ pick ! (λ v. learn ! (λ is.
         -- [the array; the token; what cells owns; room for _14; …]
         assigns ! (of-opd ! (load ! (from ! (stop !)) (look ! 0 refl))) (from ! (stop !)) (init ! 30 refl (words-ok 𝓤 H A W (t .zs) v is)) $
         returns ! (look ! 30 refl) $ forget ! 0 refl $ forget ! 19 refl $ forget ! 23 refl $ forget ! 25 refl $ forget ! 28 refl $ forget ! 30 refl $
@@ -270,13 +270,13 @@ module _ {M : Type 1} (𝓤 : URA M) (H : Heap 𝓤) (A : Atoms 𝓤) (W : Given
     starts : Sq W Start (runs C Λ En code-mir.t-1 (atRet En Post))
     starts =
         owned ! u32 (Is u32) (uint-makes 𝓤 H A W w32) 0 (vint w32 0 ∷ []) (refl, lit< tt) $
-        use1 W (‵ (Words .own (replicate tableWords 0) (arrayVal (replicate tableWords (vint w32 0)) ∷ [])))
-        (array-repeat 𝓤 H A W u32 (uint-copy 𝓤 H A W w32) tableWords 0 (vint w32 0)) $
-        peeks ! Words (Is Words) (shows 𝓤 H A Words) (replicate tableWords 0) (arrayVal (replicate tableWords (vint w32 0)) ∷ []) (λ is.
-        assigns ! (rep ! tableWords (lit ! tt)) (from ! (stop !))
-        (init ! 25 refl (words-ok 𝓤 H A W (replicate tableWords 0) (arrayVal (replicate tableWords (vint w32 0))) is)) $
-        move ! (25 ∷ 0 ∷ []) $ use2 W (given (length (replicate {A = ℕ} tableWords 0) ≡ tableWords) (‵ (row u32 fullShare (replicate tableWords 0) l₂ 0)))
-        (opens-array 𝓤 H A W u32 tt tableWords (replicate tableWords 0) (arrayVal (replicate tableWords (vint w32 0))) l₂) $ learn ! (λ long.
+        use1 W (‵ (Words .own (replicate mostWords 0) (arrayVal (replicate mostWords (vint w32 0)) ∷ [])))
+        (array-repeat 𝓤 H A W u32 (uint-copy 𝓤 H A W w32) mostWords 0 (vint w32 0)) $
+        peeks ! Words (Is Words) (shows 𝓤 H A Words) (replicate mostWords 0) (arrayVal (replicate mostWords (vint w32 0)) ∷ []) (λ is.
+        assigns ! (rep ! mostWords (lit ! tt)) (from ! (stop !))
+        (init ! 25 refl (words-ok 𝓤 H A W (replicate mostWords 0) (arrayVal (replicate mostWords (vint w32 0))) is)) $
+        move ! (25 ∷ 0 ∷ []) $ use2 W (given (length (replicate {A = ℕ} mostWords 0) ≡ mostWords) (‵ (row u32 fullShare (replicate mostWords 0) l₂ 0)))
+        (opens-array 𝓤 H A W u32 tt mostWords (replicate mostWords 0) (arrayVal (replicate mostWords (vint w32 0))) l₂) $ learn ! (λ long.
         -- [the words; _14; …; _3; …; that the array dies; _1; …; _0; …; the token; what the parameter owns]
         assigns ! (of-opd ! (load ! (from ! (fld ! refl (stop !))) (look-in ! 26 (sub ! 1 refl (whole !))))) (from ! (stop !))
         (init ! 19 refl (tt, record { fits = gn .0 })) $
@@ -291,7 +291,7 @@ module _ {M : Type 1} (𝓤 : URA M) (H : Heap 𝓤) (A : Atoms 𝓤) (W : Given
         keep ! (0 ∷ 2 ∷ 4 ∷ 5 ∷ 6 ∷ 7 ∷ 8 ∷ 9 ∷ 10 ∷ 11 ∷ 12 ∷ 13 ∷ 14 ∷ 15 ∷ 16 ∷ 17 ∷ 18 ∷ 19 ∷ 20 ∷ 21 ∷ 22 ∷ 23 ∷ 24 ∷ 25 ∷ 26 ∷ 27 ∷ 28 ∷ 29 ∷ 30 ∷ 31
         ∷ 32 ∷ 33 ∷ []) $
         first ! $ blocks ! $ loops ! 𝓣 Nearer Nearer-wf Inv turns
-        (record { j = 0; zs = replicate tableWords 0; within = zero-le; so-far = none-laid ys (replicate tableWords 0) long }))))
+        (record { j = 0; zs = replicate mostWords 0; within = zero-le; so-far = none-laid ys (replicate mostWords 0) long }))))
 
   walk : (𝓣 : Tables 𝓤 H) → Triple 𝓤 (𝓣 .C #records·word-of) (WordOf 𝓤 H A mem run) → Triple 𝓤 (𝓣 .C #records·words-to-lay) (ToLay 𝓤 H A mem run)
       → ent 𝓤 (onEntry 𝓤 H A lay-out.signature (κ, tt) (q, tt) x at) (WpFn 𝓤 H (𝓣 .C) (𝓣 .Λ) code.function (sliceVal (b, o) n ∷ []) Post)
