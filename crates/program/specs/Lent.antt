@@ -20,8 +20,8 @@ use Rattle.program.specs.declared.Program.the-variants.{First, Between, 
 abbrev pub mostLent : ℕ
 mostLent = mostRecords + 1
 
-abbrev pub tableWords : ℕ
-tableWords = mostLent * width
+abbrev pub lentTableWords : ℕ
+lentTableWords = mostLent * width
 
 abbrev pub arrivalWords : ℕ
 arrivalWords = mostPorts * arrivalWidth
@@ -39,7 +39,7 @@ entryWords = mostPorts * exhaledWidth
 
 -- the words that are lent for a table of k records
 unfoldable pub lentWords : ℕ → ℕ
-lentWords k = cond (ltb k mostLent) (k * width) tableWords
+lentWords k = cond (ltb k mostLent) (k * width) lentTableWords
 
 -- what is lent ------------------------------------------------------------------------------------
 
@@ -47,7 +47,7 @@ lentWords k = cond (ltb k mostLent) (k * width) tableWords
 pub record Sizes (x : Running) : Type 0 where
   pub ports : x .crossbar .numbers .ports ≤ mostPorts
   pub speedup : x .crossbar .numbers .speedup ≤ mostSpeedup
-  pub words : x .words ≤ tableWords
+  pub words : x .words ≤ lentTableWords
 
 abbrev pub Inside : Program → Type 0
 Inside (First r) = Unit {0}
@@ -57,12 +57,12 @@ Inside Over = Unit {0}
 
 -- a table, and room behind `at` for what a line's end may print
 pub record Room (table out : List ℕ) (at : ℕ) : Type 0 where
-  pub table-long : length table ≡ tableWords
+  pub table-long : length table ≡ lentTableWords
   pub room : at + endRoom ≤ length out
 
 -- the same and the words of a line
 pub record Lent (table arrivals out : List ℕ) (at : ℕ) : Type 0 where
-  pub table-long : length table ≡ tableWords
+  pub table-long : length table ≡ lentTableWords
   pub line-long : length arrivals ≡ arrivalWords
   pub room : at + endRoom ≤ length out
 
@@ -86,7 +86,7 @@ lent-still x l = record {
 }
 
 -- to a program that has a piece of the input to read
-pub record Given (d : Program) (piece : List ℕ) (from : ℕ) (table arrivals out : List ℕ) (at : ℕ) : Type 0 where
+pub record PieceLent (d : Program) (piece : List ℕ) (from : ℕ) (table arrivals out : List ℕ) (at : ℕ) : Type 0 where
   pub inside : Inside d
   pub unread : from ≤ length piece
   pub lent : Lent table arrivals out at

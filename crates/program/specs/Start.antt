@@ -17,7 +17,7 @@ use Rattle.rules.specs.Calls.{Started, freshStart}
 use Rattle.ideal.specs.Calls.{fresh-sizes, fresh-accepted, fresh-refused}
 use Rattle.printing.specs.Printed.{headerLine, refusedLine}
 use Rattle.program.specs.Program.{slotsText, startText}
-use Rattle.program.specs.Lent.{mostLent, tableWords, lentWords}
+use Rattle.program.specs.Lent.{mostLent, lentTableWords, lentWords}
 
 -- a table's length is all that a fresh start sees of it, and a table that is too long is refused whatever its length
 module _ (w : Switch) (k : ℕ) (t : List ℕ) (e : length t ≡ lentWords k) where
@@ -26,13 +26,13 @@ module _ (w : Switch) (k : ℕ) (t : List ℕ) (e : length t ≡ lentWords k) wh
 
   -- whether the table asked for is lent whole, or is too long as the lent one is
   abbrev Lends : Type 0
-  Lends = ((k < mostLent) × (length t ≡ k * width)) ⊎ ((mostLent ≤ k) × (length t ≡ tableWords))
+  Lends = ((k < mostLent) × (length t ≡ k * width)) ⊎ ((mostLent ≤ k) × (length t ≡ lentTableWords))
 
   lent : Lends
   unfolding lentWords
   lent = go (ltb k mostLent) refl e
     where
-      go : (b : Bool) → ltb k mostLent ≡ b → length t ≡ cond b (k * width) tableWords → Lends
+      go : (b : Bool) → ltb k mostLent ≡ b → length t ≡ cond b (k * width) lentTableWords → Lends
       go true h q = inl (ltb-true k mostLent h, q)
       go false h q = inr (ltb-false k mostLent h, q)
 
@@ -92,10 +92,10 @@ module _ (w : Switch) (k : ℕ) (t : List ℕ) (e : length t ≡ lentWords k) wh
         go true q = let z = fresh-sizes w t q in rw (is, fresh-accepted w t q) (z .ports .1, z .speedup .1)
         go false q = absurd (refuted h (ap (λ (g : Started). isDone (g .answer)) (is ∙ fresh-refused w t q) ∙ q))
 
-pub lent-small : (k : ℕ) → lentWords k ≤ tableWords
+pub lent-small : (k : ℕ) → lentWords k ≤ lentTableWords
 unfolding lentWords
 lent-small k = go (ltb k mostLent) refl
   where
-    go : (b : Bool) → ltb k mostLent ≡ b → cond b (k * width) tableWords ≤ tableWords
+    go : (b : Bool) → ltb k mostLent ≡ b → cond b (k * width) lentTableWords ≤ lentTableWords
     go true h = omega (arith, ltb-true k mostLent h)
     go false h = omega arith

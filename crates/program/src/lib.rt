@@ -25,13 +25,13 @@ ghost use Rattle.printing.specs.Printed.{lineBytes};
 ghost use Rattle.printing.specs.Prints.{Put};
 ghost use Rattle.program.specs.declared.Program.the-variants.{First, Within};
 ghost use Rattle.program.specs.Program.{cellText, slotText, answerText, heldText, endText};
-ghost use Rattle.program.specs.Lent.{tableWords, arrivalWords, lentWords, endRoom, Inside, Room, Given, LineRoom, LineLent, Blank};
+ghost use Rattle.program.specs.Lent.{lentTableWords, arrivalWords, lentWords, endRoom, Inside, Room, PieceLent, LineRoom, LineLent, Blank};
 ghost use Rattle.program.specs.Coming.{stateOf, lineWords, lineOf, closing, isOver, onByte, onNumbers, onNewline, Turns, SlotTurns, PassGoes};
 
 // One record more than the largest table: a longer one that is asked for is refused by the switch itself.
 const MOST_LENT: u32 = MOST_RECORDS as u32 + 1;
 
-// The words of that table, and of the arrivals of all inputs: what the caller lends. `tableWords`, `arrivalWords` and `endRoom` of
+// The words of that table, and of the arrivals of all inputs: what the caller lends. `lentTableWords`, `arrivalWords` and `endRoom` of
 // specs/Lent.antt are the same for contracts.
 pub const TABLE_WORDS: usize = MOST_LENT as usize * RECORD_WORDS;
 
@@ -98,7 +98,7 @@ impl Program {
         arrivals: &mut [u32],
         out: &mut [u8],
     ) -> Pass
-        requires { ⌜ Given self (now piece) from (now table) (now arrivals) (now out) 0 ⌝ }
+        requires { ⌜ PieceLent self (now piece) from (now table) (now arrivals) (now out) 0 ⌝ }
         ensures goes { λ r. ⌜
             PassGoes (length (now (out .entry))) (now (piece .entry)) from 0 self (now (table .entry)) (now (arrivals .entry)) (now (out .entry))
             r (now (table .exit)) (now (arrivals .exit)) (now (out .exit))
@@ -130,7 +130,7 @@ impl Program {
         out: &mut [u8],
         at: usize,
     ) -> Pass
-        requires { ⌜ Given self (now piece) (from + 1) (now table) (now arrivals) (now out) at ⌝ }
+        requires { ⌜ PieceLent self (now piece) (from + 1) (now table) (now arrivals) (now out) at ⌝ }
         ensures goes { λ r. ⌜
             PassGoes endRoom (now (piece .entry)) from at self (now (table .entry)) (now (arrivals .entry)) (now (out .entry))
             r (now (table .exit)) (now (arrivals .exit)) (now (out .exit))
@@ -257,7 +257,7 @@ impl Running {
         out: &mut [u8],
         at: usize,
     ) -> Pass
-        requires { ⌜ Given (Within self reader) (now piece) (from + 1) (now table) (now arrivals) (now out) at ⌝ }
+        requires { ⌜ PieceLent (Within self reader) (now piece) (from + 1) (now table) (now arrivals) (now out) at ⌝ }
         ensures goes { λ r. ⌜
             PassGoes endRoom (now (piece .entry)) from at (Within self reader) (now (table .entry)) (now (arrivals .entry)) (now (out .entry))
             r (now (table .exit)) (now (arrivals .exit)) (now (out .exit))
@@ -378,7 +378,7 @@ impl Running {
     }
 
     fn put_held(self, table: &[u32], out: &mut [u8], at: usize) -> usize
-        requires words { ⌜ (self .words ≤ length (now table)) × (length (now table) ≤ tableWords) ⌝ }
+        requires words { ⌜ (self .words ≤ length (now table)) × (length (now table) ≤ lentTableWords) ⌝ }
         requires room { ⌜ at + lineBytes ≤ length (now out) ⌝ }
         ensures { λ r. ⌜ Put lineBytes (now (out .entry)) at (heldText (stateOf self (now (table .entry)))) (now (out .exit)) r ⌝ }
     {

@@ -3,7 +3,7 @@
 use libc::STDIN_FILENO;
 use libc::STDOUT_FILENO;
 use program::Program;
-ghost use Rattle.program.specs.Lent.{Inside, Room, Lent, Given};
+ghost use Rattle.program.specs.Lent.{Inside, Room, Lent, PieceLent};
 
 fn main() {
     let mut piece = io::large_buffer();
@@ -52,7 +52,7 @@ fn take(
     table: &mut [u32],
     arrivals: &mut [u32],
 ) -> Program
-    requires { ⌜ Given start (now piece) 0 (now table) (now arrivals) (now out) 0 ⌝ }
+    requires { ⌜ PieceLent start (now piece) 0 (now table) (now arrivals) (now out) 0 ⌝ }
     ensures { λ r. ⌜ Inside r ⌝ }
 {
     let mut program = start;
