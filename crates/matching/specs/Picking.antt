@@ -16,7 +16,7 @@ use Rattle.laws.specs.Walk.{over, over-more}
 use Rattle.laws.specs.Count.{any, any→, →any}
 use Rattle.laws.specs.Least.{least, least-same}
 use Rattle.laws.specs.declared.Found.{Found}
-use Rattle.laws.specs.declared.Found.the-variants.{At, Nothing}
+use Rattle.laws.specs.declared.Found.the-variants.{Nothing}
 use Rattle.ports.specs.Ports.{has, Added}
 use Rattle.ports.specs.PortLaws.{has-none}
 use Rattle.rules.specs.declared.Cell.{Cell}

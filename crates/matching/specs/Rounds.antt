@@ -19,20 +19,21 @@ use Rattle.laws.specs.First.{Ahead, First, firstFound, first-alike, first-least
 use Rattle.laws.specs.SetWalk.{also, FirstIn, first-visit, LowestOf, lowest-skip, lowest-fresh, lowest-tie, lowest-above, lowest-nobody, nobody}
 use Rattle.laws.specs.declared.Found.{Found}
 use Rattle.laws.specs.declared.Found.the-variants.{At, Nothing}
-use Rattle.ports.specs.Ports.{maskPorts, has, withPort, Except}
+use Rattle.ports.specs.declared.Tied.{Tied}
+use Rattle.ports.specs.Ports.{maskPorts, has, withPort, lowered, Except}
 use Rattle.ports.specs.PortLaws.{has-none, has-nobody, none-inside, added, added-also, added-kept, except-in, except-out}
 use Rattle.rules.specs.declared.Cell.{Cell}
 use Rattle.rules.specs.Cells.{mostPorts, placed, nth, outputOf, isWaiting, older, before, readingFor, cellsOf}
 use Rattle.rules.specs.Phases.{isOpen, firstOpen}
 use Rattle.words.specs.Words.{length-cellsOf, same-records}
-use Rattle.ideal.specs.Cells.{waiting→, older-ranks, before-ranks}
 use Rattle.ideal.specs.Match.{open-found}
+use Rattle.ideal.specs.Phases.{placed-waits}
+use Rattle.ideal.specs.Cells.{waiting→, older-ranks, before-ranks}
 use Rattle.queues.specs.Layout.{named, named-name, isFound, headWord, senders, wanted}
 use Rattle.queues.specs.Queues.{waitsFor, waits→, →waits, headBelow, headOf, All, Queues}
 use Rattle.table.specs.Table.{olderAt, cellsOf-stored}
-use Rattle.queues.specs.Heads.{head-below, still-waits}
+use Rattle.queues.specs.Heads.{head-below}
 use Rattle.matching.specs.declared.Taken.{Taken}
-use Rattle.matching.specs.declared.Lowest.{Lowest}
 use Rattle.matching.specs.Ready.{Orderly, Takeable}
 use Rattle.matching.specs.Picking.{waitsAmong, candidate, firstCandidate, Takes, Shows, Picked}
 use Rattle.matching.specs.Picking.{picks, picks-more, picks-all, stops, open-waits}
@@ -64,13 +65,6 @@ firstFor ins o cs = least (λ k. waitsOn ins o (nth cs k)) (olderAt cs) (length 
 -- there is one
 unfoldable pub isServable : (ℕ → Bool) → ℕ → List Cell → Bool
 isServable ins o cs = any (λ k. waitsOn ins o (nth cs k)) (length cs)
-
--- the outputs with the lowest reading, once output o, whose reading is x, is among those looked at
-unfoldable pub lowered : Lowest → ℕ → ℕ → Lowest
-lowered l o x =
-    cond (eqb (l .outputs) 0) (record { outputs = withPort 0 o; reading = x })
-    (cond (ltb x (l .reading)) (record { outputs = withPort 0 o; reading = x })
-    (cond (ltb (l .reading) x) l (record { outputs = withPort (l .outputs) o; reading = l .reading })))
 
 module _ (ins outs : ℕ → Bool) (c : Cell) where
   among→ : So (waitsAmong ins outs c) → So (isWaiting c) × No (ins (c .input .0)) × So (outs (c .output .0))
@@ -256,15 +250,15 @@ first-for-below ins o cs = first-below (λ k. waitsOn ins o (nth cs k)) (olderAt
 -- The lowest readings ----------------------------------------------------------------------------
 
 -- l are those of the outputs v that can be served with the lowest reading
-pub record Lowering (r : List ℕ) (ins : ℕ → Bool) (cs : List Cell) (v : ℕ → Bool) (l : Lowest) : Type 0 where
-  pub lowest : LowestOf (λ o. isServable ins o cs) (λ o. readingFor r (outputOf o)) v (has (l .outputs)) (l .reading)
-  pub some : (l .outputs ≡ 0) ⊎ ((o : ℕ) × So (has (l .outputs) o))
+pub record Lowering (r : List ℕ) (ins : ℕ → Bool) (cs : List Cell) (v : ℕ → Bool) (l : Tied) : Type 0 where
+  pub lowest : LowestOf (λ o. isServable ins o cs) (λ o. readingFor r (outputOf o)) v (has (l .mask)) (l .reading)
+  pub some : (l .mask ≡ 0) ⊎ ((o : ℕ) × So (has (l .mask) o))
 
 module _ {r : List ℕ} {ins : ℕ → Bool} {cs : List Cell} where
-  pub lowering-none : (x : ℕ) → Lowering r ins cs nobody (record { outputs = 0; reading = x })
+  pub lowering-none : (x : ℕ) → Lowering r ins cs nobody (record { mask = 0; reading = x })
   lowering-none x = record { lowest = rw has-nobody (lowest-nobody x); some = inl refl }
 
-  module _ {v : ℕ → Bool} {l : Lowest} (h : Lowering r ins cs v l) (o : ℕ) where
+  module _ {v : ℕ → Bool} {l : Tied} (h : Lowering r ins cs v l) (o : ℕ) where
     -- output o is visited and cannot be served
     pub lowering-skip : No (isServable ins o cs) → Lowering r ins cs (also v o) l
     lowering-skip n = record { lowest = lowest-skip (h .lowest) o n; some = h .some }
@@ -272,9 +266,9 @@ module _ {r : List ℕ} {ins : ℕ → Bool} {cs : List Cell} where
     -- it can
     pub lowering-visit : So (isServable ins o cs) → (x : ℕ) → x ≡ readingFor r (outputOf o) → Lowering r ins cs (also v o) (lowered l o x)
     unfolding lowered
-    lowering-visit c x e = go (eqb (l .outputs) 0) (ltb x (l .reading)) (ltb (l .reading) x) refl refl refl
+    lowering-visit c x e = go (eqb (l .mask) 0) (ltb x (l .reading)) (ltb (l .reading) x) refl refl refl
       where
-        fresh : ((q : ℕ) → No (has (l .outputs) q)) ⊎ (x < l .reading) → Lowering r ins cs (also v o) (record { outputs = withPort 0 o; reading = x })
+        fresh : ((q : ℕ) → No (has (l .mask) q)) ⊎ (x < l .reading) → Lowering r ins cs (also v o) (record { mask = withPort 0 o; reading = x })
         fresh less =
             let a = added {r = withPort 0 o} refl in
             record {
@@ -282,16 +276,16 @@ module _ {r : List ℕ} {ins : ℕ → Bool} {cs : List Cell} where
               some = inr (o, a .inside);
             }
 
-        go : (a b d : Bool) → eqb (l .outputs) 0 ≡ a → ltb x (l .reading) ≡ b → ltb (l .reading) x ≡ d
-            → Lowering r ins cs (also v o) (cond a (record { outputs = withPort 0 o; reading = x })
-            (cond b (record { outputs = withPort 0 o; reading = x }) (cond d l (record { outputs = withPort (l .outputs) o; reading = l .reading }))))
+        go : (a b d : Bool) → eqb (l .mask) 0 ≡ a → ltb x (l .reading) ≡ b → ltb (l .reading) x ≡ d
+            → Lowering r ins cs (also v o) (cond a (record { mask = withPort 0 o; reading = x })
+            (cond b (record { mask = withPort 0 o; reading = x }) (cond d l (record { mask = withPort (l .mask) o; reading = l .reading }))))
         go true b d i j k = fresh (inl (λ q. ap (λ (m : ℕ). has m q) (eqb-true _ _ i) ∙ has-none q))
         go false true d i j k = fresh (inr (ltb-true _ _ j))
         go false false true i j k =
             let g = ⊎-elim (λ z. absurd (eqb-false _ _ i z)) (λ y. y) (h .some) in
             record { lowest = lowest-above (h .lowest) o c (omega (arith, e, ltb-true (l .reading) x k)) (g .0) (g .1); some = h .some }
         go false false false i j k =
-            let a = added {r = withPort (l .outputs) o} refl in
+            let a = added {r = withPort (l .mask) o} refl in
             let tie : readingFor r (outputOf o) ≡ l .reading = omega (arith, e, ltb-false x (l .reading) j, ltb-false (l .reading) x k) in
             record { lowest = rw (added-also a) (lowest-tie (h .lowest) o c tie); some = inr (o, a .inside) }
 
@@ -301,8 +295,8 @@ pub record Lows (r : List ℕ) (q : Taken) (cs : List Cell) (s : ℕ) : Type 0 w
   pub all : LowestOf (λ o. isServable (has (q .inputs)) o cs) (λ o. readingFor r (outputOf o)) (λ o. not (has (q .outputs) o)) (has s) low
 
 -- every output that is wanted and not taken was visited
-pub all-wanted : {r : List ℕ} {q : Taken} {cs : List Cell} {qs : List ℕ} {left : ℕ} {l : Lowest} → Queues All cs qs → Except (wanted qs) (q .outputs) left
-    → Lowering r (has (q .inputs)) cs (has left) l → Lows r q cs (l .outputs)
+pub all-wanted : {r : List ℕ} {q : Taken} {cs : List Cell} {qs : List ℕ} {left : ℕ} {l : Tied} → Queues All cs qs → Except (wanted qs) (q .outputs) left
+    → Lowering r (has (q .inputs)) cs (has left) l → Lows r q cs (l .mask)
 all-wanted {r} {q} {cs} {qs} {left} {l} w e h = record {
   low = l .reading;
   all = record {
@@ -355,8 +349,9 @@ module _ {us vs qs : List ℕ} {q next : Taken} {ns ms : List ℕ} {k : ℕ} (t 
   cells : cellsOf vs ≡ set (cellsOf us) k (placed 2 (nth (cellsOf us) k))
   cells = ap cellsOf (t .table) ∙ cellsOf-stored us k (placed 2 (nth (cellsOf us) k))
 
+  -- a cell that still waits is another one
   still : (j : ℕ) → So (isWaiting (nth (cellsOf vs) j)) → nth (cellsOf vs) j ≡ nth (cellsOf us) j
-  still j w = rw cells (still-waits (cellsOf us) k l j (rw cells at (waiting→ _ w)))
+  still j w = rw cells (placed-waits (cellsOf us) k l j (rw cells at (waiting→ _ w)))
 
   still-servable : (o : ℕ) → So (isServable (has (next .inputs)) o (cellsOf vs)) → So (isServable (has (q .inputs)) o (cellsOf us))
   unfolding isServable

@@ -21,7 +21,7 @@ use Rattle.rules.specs.declared.Cell.{Cell}
 use Rattle.rules.specs.Cells.{mostPorts, nth, outputOf, cellsOf, sameOutput}
 use Rattle.rules.specs.Phases.{matchOf, isTakenOutput, moves, phase, servedWord, matchWords}
 use Rattle.words.specs.Words.{withRecords, with-long}
-use Rattle.ideal.specs.Match.{match-waits, taken→}
+use Rattle.ideal.specs.Match.{taken→, match-waits}
 use Rattle.ideal.specs.Phases.{length-moved}
 use Rattle.queues.specs.Queues.{All, Queues}
 use Rattle.matching.specs.declared.Taken.{Taken}

@@ -19,7 +19,7 @@ use Rattle.rules.specs.declared.Cell.{Cell}
 use Rattle.rules.specs.Cells.{free, nth, outputOf, sameOutput, cellsOf}
 use Rattle.rules.specs.Phases.{matchOf, moves, moved, phase, phases, matchWords, servedWord, isTakenOutput}
 use Rattle.rules.specs.Phases.{matches as matchesOf}
-use Rattle.ideal.specs.Match.{match-waits, →taken}
+use Rattle.ideal.specs.Match.{→taken, match-waits}
 use Rattle.words.specs.Words.{same-records, withRecords, with-long, with-cells, with-then, with-own}
 use Rattle.ideal.specs.InPorts.{InPorts, in-ports-phases}
 use Rattle.ideal.specs.Phases.{length-moved, moved-no, phases-zero, length-phases}

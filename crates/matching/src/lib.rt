@@ -1,5 +1,6 @@
 // A transfer phase: rounds of picking by the queues' heads, and the match words; and S phases by one reading.
 use laws::Found;
+use ports::Tied;
 use queues::QUEUE_WORDS;
 use rules::Input;
 use rules::Output;
@@ -16,7 +17,7 @@ ghost use Rattle.rules.specs.Phases.{matches as matchesOf};
 ghost use Rattle.words.specs.Words.{withRecords};
 ghost use Rattle.matching.specs.Ready.{Orderly, Ready, Takeable};
 ghost use Rattle.matching.specs.Picking.{firstCandidate, Takes, Picked};
-ghost use Rattle.matching.specs.Rounds.{firstFor, firstAmong, isServable, lowered, Lows, Kept};
+ghost use Rattle.matching.specs.Rounds.{firstFor, firstAmong, isServable, Lows, Kept};
 ghost use Rattle.matching.specs.Transfer.{Writable, Written, Transferred};
 
 // The taken inputs and the taken outputs are two sets of ports.
@@ -50,43 +51,13 @@ fn is_servable(table: &[u32], queues: &[u16], inputs: u16, o: Output) -> bool
     ports::except(queues::senders_for(queues, o), inputs) != 0
 }
 
-// A set of outputs with the same reading.
-struct Lowest {
-    outputs: u16,
-    reading: u32,
-}
-
-// The outputs with the lowest reading, once output o, whose reading is x, is among those looked at.
-fn lower_of(lowest: Lowest, o: Output, x: u32) -> Lowest
-    requires { ⌜ o .0 < mostPorts ⌝ }
-    ensures { λ q. ⌜ q ≡ lowered lowest (o .0) x ⌝ }
-{
-    let fresh = Lowest {
-        outputs: ports::with(0, o.0),
-        reading: x,
-    };
-    if lowest.outputs == 0 {
-        return fresh;
-    }
-    if x < lowest.reading {
-        return fresh;
-    }
-    if lowest.reading < x {
-        return lowest;
-    }
-    Lowest {
-        outputs: ports::with(lowest.outputs, o.0),
-        reading: lowest.reading,
-    }
-}
-
 // Of the outputs that are not taken and can be served, those with the lowest reading.
 fn lowest_readings(table: &[u32], queues: &[u16], r: Reading, taken: Taken) -> u16
     requires { ⌜ Queues All (cellsOf (now table)) (now queues) ⌝ }
     ensures { λ q. ⌜ Lows (r .counts) taken (cellsOf (now (table .entry))) q ⌝ }
 {
-    let mut lowest = Lowest {
-        outputs: 0,
+    let mut lowest = Tied {
+        mask: 0,
         reading: 0,
     };
     let mut left = ports::except(queues::wanted_outputs(queues), taken.outputs);
@@ -95,10 +66,10 @@ fn lowest_readings(table: &[u32], queues: &[u16], r: Reading, taken: Taken) -> u
         left = ports::without(left, o);
         if is_servable(table, queues, taken.inputs, Output(o)) {
             let at = o as usize;
-            lowest = lower_of(lowest, Output(o), r.counts[at]);
+            lowest = ports::lower_of(lowest, o, r.counts[at]);
         }
     }
-    lowest.outputs
+    lowest.mask
 }
 
 // Of the waiting cells for some outputs, at inputs that are not taken, the oldest.

@@ -1,11 +1,12 @@
 -- Sets of ports as numbers: port q is in the set m when binary digit q of m is 1.
 -- Assumes nothing.
 use mathlib.Core.Path.{_≡_}
-use mathlib.Core.Bool.{Bool, So, not, _&&_}
+use mathlib.Core.Bool.{Bool, So, not, cond, _&&_}
 use Prim.Native.Nat.{ℕ, _-_, _/_, _%_, _^_, _<_}
-use lib.Dec.{eqb}
+use lib.Dec.{eqb, ltb}
 use lib.Bits.{bitOr, bitAnd, bitXor}
 use Rattle.laws.specs.Tests.{No}
+use Rattle.ports.specs.declared.Tied.{Tied}
 
 -- how many ports a set has room for: the binary digits of a mask
 abbrev pub maskPorts : ℕ
@@ -28,6 +29,13 @@ withoutPort m p = m - 2 ^ p
 
 unfoldable pub exceptPorts : ℕ → ℕ → ℕ
 exceptPorts m k = bitXor m (bitAnd m k)
+
+-- the ports with the lowest reading, once port p, whose reading is x, is among those looked at
+unfoldable pub lowered : Tied → ℕ → ℕ → Tied
+lowered l p x =
+    cond (eqb (l .mask) 0) (record { mask = withPort 0 p; reading = x })
+    (cond (ltb x (l .reading)) (record { mask = withPort 0 p; reading = x })
+    (cond (ltb (l .reading) x) l (record { mask = withPort (l .mask) p; reading = l .reading })))
 
 -- What these sets are, by their members ----------------------------------------------------------
 

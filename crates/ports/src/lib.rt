@@ -5,7 +5,7 @@ ghost use Prim.Native.Nat.{_<_};
 ghost use Rattle.laws.specs.Count.{count};
 ghost use Rattle.laws.specs.Least.{lowest as lowestOf};
 ghost use Rattle.laws.specs.declared.Found.the-variants.{At};
-ghost use Rattle.ports.specs.Ports.{maskPorts, has, withPort, withoutPort, exceptPorts};
+ghost use Rattle.ports.specs.Ports.{maskPorts, has, withPort, withoutPort, exceptPorts, lowered};
 
 // How many ports a mask has room for: its binary digits.
 const MASK_PORTS: u32 = 16;
@@ -56,4 +56,34 @@ pub fn lowest(mask: u16) -> u32
     ensures { λ r. ⌜ lowestOf (has mask) maskPorts ≡ At r ⌝ }
 {
     u16::trailing_zeros(mask)
+}
+
+// A set of ports that have the same reading.
+pub struct Tied {
+    pub mask: u16,
+    pub reading: u32,
+}
+
+// The ports with the lowest reading, once a port whose reading is x is among those looked at.
+pub fn lower_of(lowest: Tied, port: u32, x: u32) -> Tied
+    requires { ⌜ port < maskPorts ⌝ }
+    ensures { λ r. ⌜ r ≡ lowered lowest port x ⌝ }
+{
+    let fresh = Tied {
+        mask: with(0, port),
+        reading: x,
+    };
+    if lowest.mask == 0 {
+        return fresh;
+    }
+    if x < lowest.reading {
+        return fresh;
+    }
+    if lowest.reading < x {
+        return lowest;
+    }
+    Tied {
+        mask: with(lowest.mask, port),
+        reading: lowest.reading,
+    }
 }

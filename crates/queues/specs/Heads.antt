@@ -21,6 +21,7 @@ use Rattle.rules.specs.declared.Output.{Output}
 use Rattle.rules.specs.declared.Cell.{Cell}
 use Rattle.rules.specs.Cells.{mostPorts, mostRecords, free, nth, placed, cellsOf}
 use Rattle.ideal.specs.Cells.{waiting→, Same, older-same}
+use Rattle.ideal.specs.Phases.{placed-waits, placed-cell}
 use Rattle.ideal.specs.InPorts.{in-ports-still}
 use Rattle.words.specs.Words.{length-cellsOf}
 use Rattle.queues.specs.Layout.{pairs, tops, links, senderSets, wantedSet, queueWords, pair, same-pair}
@@ -173,9 +174,10 @@ module _ {table qs : List ℕ} {i : Input} {o : Output} (s : Stale table qs i o)
         };
       }
 
--- A cell becomes ready ---------------------------------------------------------------------------
+-- A head becomes ready ---------------------------------------------------------------------------
 
-module _ (cs : List Cell) (k : ℕ) (l : k < length cs) where
+-- its pair's head is to be found anew, the others stand
+module _ {cs : List Cell} {qs : List ℕ} (q : Queues All cs qs) (k : ℕ) (l : k < length cs) where
   next : List Cell
   next = set cs k (placed 2 (nth cs k))
 
@@ -183,39 +185,22 @@ module _ (cs : List Cell) (k : ℕ) (l : k < length cs) where
   unfolding next
   next-long = length-set cs k (placed 2 (nth cs k))
 
-  at-k : nth next k ≡ placed 2 (nth cs k)
-  unfolding next
-  at-k = getD-set-same cs k (placed 2 (nth cs k)) free l
-
   at-other : (j : ℕ) → (j ≡ k → ⊥) → nth next j ≡ nth cs j
   unfolding next
   at-other j n = getD-set-other cs k j (placed 2 (nth cs k)) free n
 
-  -- one that still waits is another one
-  pub still-waits : (j : ℕ) → nth (set cs k (placed 2 (nth cs k))) j .place ≡ 1 → nth (set cs k (placed 2 (nth cs k))) j ≡ nth cs j
+  -- a cell that still waits is another one
+  still : (j : ℕ) → nth next j .place ≡ 1 → nth next j ≡ nth cs j
   unfolding next
-  still-waits j h =
-      ⊎-elim
-      (λ x. let e : j ≡ k = eqb-true j k x in absurd (omega (arith, h, ap (λ (i : ℕ). nth next i .place) e, ap (λ (c : Cell). c .place) at-k)))
-      (λ x. at-other j (eqb-false j k x))
-      (passes (eqb j k))
+  still j h = placed-waits cs k l j h
 
--- where it was a head, its pair's head is to be found anew; the others stand
-module _ {cs : List Cell} {qs : List ℕ} (q : Queues All cs qs) (k : ℕ) (l : k < length cs) where
-  abbrev us : List Cell
-  us = next cs k l
-
-  still : (j : ℕ) → nth us j .place ≡ 1 → nth us j ≡ nth cs j
-  unfolding next
-  still = still-waits cs k l
-
-  alike : (i o j : ℕ) → But (nth cs k .input .0) (nth cs k .output .0) i o → waitsFor i o (nth us j) ≡ waitsFor i o (nth cs j)
+  alike : (i o j : ℕ) → But (nth cs k .input .0) (nth cs k .output .0) i o → waitsFor i o (nth next j) ≡ waitsFor i o (nth cs j)
   alike i o j ne =
       same-test _ _
-      (λ h. subst (λ (c : Cell). So (waitsFor i o c)) (still j (waiting→ _ (waits→ i o (nth us j) h .0))) h)
+      (λ h. subst (λ (c : Cell). So (waitsFor i o c)) (still j (waiting→ _ (waits→ i o (nth next j) h .0))) h)
       (λ h. ⊎-elim
       (λ x. absurd (ne (own (eqb-true j k x) h)))
-      (λ x. subst (λ (c : Cell). So (waitsFor i o c)) (sym (at-other cs k l j (eqb-false j k x))) h)
+      (λ x. subst (λ (c : Cell). So (waitsFor i o c)) (sym (at-other j (eqb-false j k x))) h)
       (passes (eqb j k)))
     where
       own : j ≡ k → So (waitsFor i o (nth cs j)) → pair i o ≡ pair (nth cs k .input .0) (nth cs k .output .0)
@@ -223,28 +208,25 @@ module _ {cs : List Cell} {qs : List ℕ} (q : Queues All cs qs) (k : ℕ) (l : 
           let w = waits→ i o (nth cs j) h in
           omega (arith, w .1, w .2, ap (λ (c : ℕ). nth cs c .input .0) e, ap (λ (c : ℕ). nth cs c .output .0) e)
 
-  same-cell : (j : ℕ) → Same (nth us j) (nth cs j)
-  same-cell j =
-      ⊎-elim
-      (λ x. let e : j ≡ k = eqb-true j k x in rw (e, at-k cs k l) (record { input = refl; output = refl; entered = refl; tag = refl }))
-      (λ x. rw (at-other cs k l j (eqb-false j k x)) (record { input = refl; output = refl; entered = refl; tag = refl }))
-      (passes (eqb j k))
+  same-cell : (j : ℕ) → Same (nth next j) (nth cs j)
+  unfolding next
+  same-cell j = placed-cell cs k l j
 
-  head-stays : (i o : ℕ) → But (nth cs k .input .0) (nth cs k .output .0) i o → headOf us i o ≡ headOf cs i o
+  head-stays : (i o : ℕ) → But (nth cs k .input .0) (nth cs k .output .0) i o → headOf next i o ≡ headOf cs i o
   unfolding headBelow
   head-stays i o ne =
-      ap (λ (n : ℕ). headBelow us n i o) (next-long cs k l)
+      ap (λ (n : ℕ). headBelow next n i o) next-long
       ∙ least-same _ _ _ _ (length cs) (λ j m. alike i o j ne)
-      (λ a b m n. older-same (nth us a) (nth cs a) (nth us b) (nth cs b) (same-cell a) (same-cell b))
+      (λ a b m n. older-same (nth next a) (nth cs a) (nth next b) (nth cs b) (same-cell a) (same-cell b))
 
   pub queues-take : Queues (But (nth cs k .input .0) (nth cs k .output .0)) (set cs k (placed 2 (nth cs k))) qs
   unfolding next
   queues-take = record {
     cl = q .cl;
     long = q .long;
-    ports = in-ports-still (next-long cs k l) (λ j m w. still j w) (q .ports);
-    chains = rw (next-long cs k l) (q .chains);
-    covers = λ j m w. let s = still j (waiting→ _ w) in rw s (q .covers j (rw (next-long cs k l) at m) (rw s at w));
+    ports = in-ports-still next-long (λ j m w. still j w) (q .ports);
+    chains = rw next-long (q .chains);
+    covers = λ j m w. let s = still j (waiting→ _ w) in rw s (q .covers j (rw next-long at m) (rw s at w));
     heads = record {
       head = λ i o a b ne. q .heads .head i o a b tt ∙ ap nameOf (sym (head-stays i o ne));
       sends = λ i o a b ne. q .heads .sends i o a b tt ∙ ap isFound (sym (head-stays i o ne));

@@ -1,9 +1,9 @@
 -- The first output, one with a lower reading, one with a higher, one with the same.
 use borrow.Author.Tests.{eq-eqb, ne-eqb, lt-ltb, le-ltb}
-use Rattle.matching.specs.Rounds.{lowered}
+use Rattle.ports.specs.Ports.{lowered}
 use borrow.Author.Needs.{needs}
-use Rattle.matching.proofs.lower_of.Statement.{statement}
-use Rattle.matching.proofs.lower_of.Tie as tie
+use Rattle.ports.proofs.lower_of.Statement.{statement}
+use Rattle.ports.proofs.lower_of.Tie as tie
 
 with-requires : tie.Need-with-requires
 with-requires c κs = search needs
