@@ -28,8 +28,8 @@ use Rattle.table.specs.Table.{stored}
 use Rattle.buffers.specs.Stores.{length-storeAt, nth-storeAt}
 
 -- the words of an entry: a mark, and what the rules show of a cell behind it
-abbrev pub entryWords : ℕ → Cell → List ℕ
-entryWords mark c = mark ∷ drop 1 (emittedWords (c ∷ []) (At 0))
+abbrev pub entryOf : ℕ → Cell → List ℕ
+entryOf mark c = mark ∷ drop 1 (emittedWords (c ∷ []) (At 0))
 
 -- the words ws of the table and l of the list become vs and m when output o emits
 pub record Emitted (o : Output) (ws l vs m : List ℕ) : Type 0 where
@@ -45,10 +45,10 @@ found-inside ws o k f = rw (length-cellsOf ws) at (found-ready (cellsOf ws) o k 
 
 -- what the code does for output o: nothing found, or record k
 module _ {o : Output} {ws l m : List ℕ} where
-  pub emits-nothing : oldestReady (cellsOf ws) o ≡ Nothing → m ≡ sets l (o .0 * exhaledWidth) (entryWords 0 free) → Emitted o ws l ws m
+  pub emits-nothing : oldestReady (cellsOf ws) o ≡ Nothing → m ≡ sets l (o .0 * exhaledWidth) (entryOf 0 free) → Emitted o ws l ws m
   emits-nothing f e = record { table = rw f (sym (with-own ws)); list = rw f e }
 
-  pub emits-record : {k : ℕ} {vs : List ℕ} → oldestReady (cellsOf ws) o ≡ At k → m ≡ sets l (o .0 * exhaledWidth) (entryWords 1 (nth (cellsOf ws) k))
+  pub emits-record : {k : ℕ} {vs : List ℕ} → oldestReady (cellsOf ws) o ≡ At k → m ≡ sets l (o .0 * exhaledWidth) (entryOf 1 (nth (cellsOf ws) k))
       → vs ≡ stored ws k free → Emitted o ws l vs m
   emits-record f e s = record { table = rw f s; list = rw f e }
 
@@ -87,7 +87,7 @@ module _ (cs : List Cell) (o : ℕ) where
   words-same = go found refl
     where
       go : (x : Found) → found ≡ x → emittedWords (exhale o cs) x ≡ emittedWords cs x
-      go (At k) e = let r = found-ready cs (outputOf o) k e in ap (entryWords 1) (kept k (r .0) (r .1))
+      go (At k) e = let r = found-ready cs (outputOf o) k e in ap (entryOf 1) (kept k (r .0) (r .1))
       go Nothing e = refl
 
   -- with output o, what it finds is emitted besides

@@ -14,7 +14,7 @@ ghost use Rattle.rules.specs.Phases.{inhale, exhale, exhaled};
 ghost use Rattle.words.specs.Words.{changed};
 ghost use Rattle.table.specs.Table.{NoneBelow};
 ghost use Rattle.buffers.specs.Inhale.{Entered};
-ghost use Rattle.buffers.specs.Exhale.{entryWords, Emitted};
+ghost use Rattle.buffers.specs.Exhale.{entryOf, Emitted};
 
 // The cell that arrives at input i, if one does, takes the lowest-numbered free record: one from `from` on, none below being free.
 // Gives a record from which the next one may look. Without room the table stays; such a slot is refused before.
@@ -60,7 +60,7 @@ pub fn inhale(table: &mut [u32], arrivals: &[u32], ports: u32, t: Slot)
 // The words of an exhaled entry: 1 and those of the cell, or 0 and those of a free record.
 fn put_entry(list: &mut [u32], at: usize, mark: u32, c: Cell)
     requires { ⌜ at + exhaledWidth ≤ length (now list) ⌝ }
-    ensures { λ _. ⌜ now (list .exit) ≡ sets (now (list .entry)) at (entryWords mark c) ⌝ }
+    ensures { λ _. ⌜ now (list .exit) ≡ sets (now (list .entry)) at (entryOf mark c) ⌝ }
 {
     list[at] = mark;
     list[at + 1] = c.input.0;
