@@ -129,7 +129,7 @@ module _ {cs : List Cell} {qs : List ℕ} (q : Queues All cs qs) where
   sent i o l m h = head-found cs i o (headOf cs i o) (head-first cs i o) (sym (q .heads .sends i o l m tt) ∙ h)
 
   -- an output that can be served is wanted
-  pub wants : (o : ℕ) (ins : ℕ → Bool) → So (isServable ins o cs) → So (has (wanted qs) o)
+  wants : (o : ℕ) (ins : ℕ → Bool) → So (isServable ins o cs) → So (has (wanted qs) o)
   unfolding isServable
   wants o ins h =
       let k = any→ (λ k. waitsOn ins o (nth cs k)) (length cs) h in
