@@ -34,8 +34,8 @@ endRoom = mostPorts * lineBytes
 abbrev pub movedWords : ℕ
 movedWords = mostSpeedup * mostPorts
 
-abbrev pub entryWords : ℕ
-entryWords = mostPorts * exhaledWidth
+abbrev pub lentEntryWords : ℕ
+lentEntryWords = mostPorts * exhaledWidth
 
 -- the words that are lent for a table of k records
 unfoldable pub lentWords : ℕ → ℕ

@@ -6,7 +6,7 @@ use native.Mathlib.Omega.{arith}
 use lib.ListN.{length, take, length-replicate}
 use Rattle.laws.specs.Lists.{take-replicate}
 use Rattle.rules.specs.Answers.{exhaledWidth}
-use Rattle.program.specs.Lent.{movedWords, entryWords, blank}
+use Rattle.program.specs.Lent.{movedWords, lentEntryWords, blank}
 use Rattle.program.specs.Turns.{moved-small}
 use borrow.Author.Needs.{needs}
 use Rattle.program.proofs.Running.slot.Statement.{statement}
@@ -34,8 +34,8 @@ moves-fit c = moved-small (c .args .self) (c .pre .sizes)
 no-matches : (c : tie.Start) → take (moves c) (blank movedWords) ≡ blank (moves c)
 no-matches c = take-replicate (moves c) movedWords 0 (moves-fit c)
 
-none-exhaled : (c : tie.Start) → take (emits c) (blank entryWords) ≡ blank (emits c)
-none-exhaled c = take-replicate (emits c) entryWords 0 (omega (arith, c .pre .sizes .ports))
+none-exhaled : (c : tie.Start) → take (emits c) (blank lentEntryWords) ≡ blank (emits c)
+none-exhaled c = take-replicate (emits c) lentEntryWords 0 (omega (arith, c .pre .sizes .ports))
 
 mul-moved : tie.Need-mul-moved
 mul-moved c = omega (arith, moves-fit (entry c))
