@@ -48,12 +48,6 @@ free-cell-requires c κs = search needs
 put-entry-requires : tie.Need-put-entry-requires
 put-entry-requires c κs = search needs
 
-same-length : tie.Need-same-length
-same-length c = search needs
-
-same-length-2 : tie.Need-same-length-2
-same-length-2 c = search needs
-
 returns : tie.Need-returns
 returns c =
     let w = c .before .before in
@@ -68,12 +62,6 @@ put-entry-requires-2 c κs = search needs
 
 free-record-requires : tie.Need-free-record-requires
 free-record-requires c κs = found-inside _ _ _ (finds (found (written (c .before .before .before))))
-
-same-length-3 : tie.Need-same-length-3
-same-length-3 c = search needs
-
-same-length-4 : tie.Need-same-length-4
-same-length-4 c = search needs
 
 returns-2 : tie.Need-returns-2
 returns-2 c =
@@ -92,12 +80,12 @@ emit-spec =
     enum-told
     free-cell-requires
     put-entry-requires
-    same-length
-    same-length-2
+    (λ c. search needs)
+    (λ c. search needs)
     returns
     cell-at-requires
     put-entry-requires-2
     free-record-requires
-    same-length-3
-    same-length-4
+    (λ c. search needs)
+    (λ c. search needs)
     returns-2)

@@ -57,9 +57,6 @@ enum-known-k c = search needs
 enum-told : tie.Need-enum-told
 enum-told c = search needs
 
-same-length : tie.Need-same-length
-same-length c = search needs
-
 returns-2 : tie.Need-returns-2
 unfolding firstWord
 returns-2 c =
@@ -85,9 +82,6 @@ add-result : tie.Need-add-result
 unfolding records
 add-result c = omega (arith, room-inside _ _ (room (put (c .before .before))))
 
-same-length-2 : tie.Need-same-length-2
-same-length-2 c = search needs
-
 returns-3 : tie.Need-returns-3
 unfolding firstWord tagWord
 returns-3 c =
@@ -106,7 +100,7 @@ enter-spec =
     next-free-requires
     enum-known-k
     enum-told
-    same-length
+    (λ c. search needs)
     returns-2
     sub-output
     add-tag
@@ -114,5 +108,5 @@ enter-spec =
     shared-slice-read-tag
     put-cell-requires
     add-result
-    same-length-2
+    (λ c. search needs)
     returns-3)

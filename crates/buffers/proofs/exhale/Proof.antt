@@ -35,9 +35,6 @@ loop-again c =
 same-length : tie.Need-same-length Inv-loop μ-loop
 same-length c = exhaling-long (c .before .loop .inv .2)
 
-same-length-2 : tie.Need-same-length-2 Inv-loop μ-loop
-same-length-2 c = omega arith
-
 returns : tie.Need-returns Inv-loop μ-loop
 returns c =
     let n = c .before .before .before .before .args .ports in
@@ -57,5 +54,5 @@ exhale-spec =
     loop-less
     loop-again
     same-length
-    same-length-2
+    (λ c. omega arith)
     returns)

@@ -39,9 +39,6 @@ mul-list-4 c = search needs
 slice-write-list-4 : tie.Need-slice-write-list-4
 slice-write-list-4 c = simp length-set (omega arith)
 
-same-length : tie.Need-same-length
-same-length c = search needs
-
 returns : tie.Need-returns
 returns c = simp towards-suc
 
@@ -60,5 +57,5 @@ put-entry-spec =
     add-list-3
     mul-list-4
     slice-write-list-4
-    same-length
+    (λ c. search needs)
     returns)

@@ -25,12 +25,6 @@ write-numbers-requires c κs = search needs
 number-requires : tie.Need-number-requires
 number-requires c κs = search needs
 
-same-length : tie.Need-same-length
-same-length c = search needs
-
-same-length-2 : tie.Need-same-length-2
-same-length-2 c = search needs
-
 returns-2 : tie.Need-returns-2
 returns-2 c =
     let written : tie.After-write-numbers = c .before .before .before in
@@ -52,6 +46,6 @@ treikwater-fresh-start-spec =
     fresh-start-requires
     write-numbers-requires
     number-requires
-    same-length
-    same-length-2
+    (λ c. search needs)
+    (λ c. search needs)
     returns-2)

@@ -29,18 +29,6 @@ write-numbers-requires c κs = search needs
 number-requires : tie.Need-number-requires
 number-requires c κs = search needs
 
-same-length : tie.Need-same-length
-same-length c = search needs
-
-same-length-2 : tie.Need-same-length-2
-same-length-2 c = search needs
-
-same-length-3 : tie.Need-same-length-3
-same-length-3 c = search needs
-
-same-length-4 : tie.Need-same-length-4
-same-length-4 c = search needs
-
 returns-2 : tie.Need-returns-2
 returns-2 c =
     let written : tie.After-write-numbers = c .before .before .before in
@@ -63,8 +51,8 @@ treikwater-slot-spec =
     slot-requires
     write-numbers-requires
     number-requires
-    same-length
-    same-length-2
-    same-length-3
-    same-length-4
+    (λ c. search needs)
+    (λ c. search needs)
+    (λ c. search needs)
+    (λ c. search needs)
     returns-2)

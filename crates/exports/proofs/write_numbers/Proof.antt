@@ -14,13 +14,10 @@ slice-write-numbers-2 c = search needs
 slice-write-numbers-3 : tie.Need-slice-write-numbers-3
 slice-write-numbers-3 c = search needs
 
-same-length : tie.Need-same-length
-same-length c = search needs
-
 returns : tie.Need-returns
 returns c = all-set (now (c .args .numbers)) (c .args .w) (c .pre)
 
 pub write-numbers-spec : {M : Type 1} → statement M
 write-numbers-spec =
     tie.close
-    (tie.spec slice-write-numbers slice-write-numbers-2 slice-write-numbers-3 same-length returns)
+    (tie.spec slice-write-numbers slice-write-numbers-2 slice-write-numbers-3 (λ c. search needs) returns)

@@ -51,12 +51,6 @@ with-requires c κs = ports-of (read (setting (renewing c .before))) .input
 with-requires-2 : tie.Need-with-requires-2
 with-requires-2 c κs = ports-of (read (setting (renewing (c .before) .before))) .output
 
-same-length : tie.Need-same-length
-same-length c = search needs
-
-same-length-2 : tie.Need-same-length-2
-same-length-2 c = search needs
-
 returns : tie.Need-returns
 returns c =
     let n = renewing (c .before .before) in
@@ -82,6 +76,6 @@ take-spec =
     element-write-served
     with-requires
     with-requires-2
-    same-length
-    same-length-2
+    (λ c. search needs)
+    (λ c. search needs)
     returns)

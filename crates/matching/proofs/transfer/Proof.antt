@@ -23,15 +23,6 @@ write-words-requires c κs =
 size-requires : tie.Need-size-requires
 size-requires c κs = search needs
 
-same-length : tie.Need-same-length
-same-length c = search needs
-
-same-length-2 : tie.Need-same-length-2
-same-length-2 c = search needs
-
-same-length-3 : tie.Need-same-length-3
-same-length-3 c = search needs
-
 returns : tie.Need-returns
 unfolding phase
 returns c =
@@ -53,7 +44,7 @@ transfer-spec =
     pick-requires
     write-words-requires
     size-requires
-    same-length
-    same-length-2
-    same-length-3
+    (λ c. search needs)
+    (λ c. search needs)
+    (λ c. search needs)
     returns)

@@ -21,12 +21,6 @@ run-phases-requires c κs =
     let p = l .before .before .before .before .before .pre in
     (record { orderly = p .0; queues = rw (l .line-up .ensures) (lined-up (orderly-lineable (p .0))) }, p .1)
 
-same-length : tie.Need-same-length
-same-length c = search needs
-
-same-length-2 : tie.Need-same-length-2
-same-length-2 c = search needs
-
 returns : tie.Need-returns
 returns c = search needs
 
@@ -38,6 +32,6 @@ transfers-spec =
     line-up-requires
     slice-aggregate-run-phases
     run-phases-requires
-    same-length
-    same-length-2
+    (λ c. search needs)
+    (λ c. search needs)
     returns)

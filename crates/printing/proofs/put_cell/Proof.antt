@@ -17,9 +17,6 @@ put-field-requires-2 c κs = search needs
 put-numbers-requires : tie.Need-put-numbers-requires
 put-numbers-requires c κs = search needs
 
-same-length : tie.Need-same-length
-same-length c = search needs
-
 returns : tie.Need-returns
 unfolding cellLine
 returns c =
@@ -32,4 +29,4 @@ returns c =
 pub put-cell-spec : {M : Type 1} → statement M
 put-cell-spec =
     tie.close
-    (tie.spec put-field-requires put-field-requires-2 put-numbers-requires same-length returns)
+    (tie.spec put-field-requires put-field-requires-2 put-numbers-requires (λ c. search needs) returns)

@@ -18,9 +18,6 @@ put-number-requires c κs = omega (arith, short (c .before .before))
 put-byte-requires : tie.Need-put-byte-requires
 put-byte-requires c κs = omega (arith, short (c .before .before .before .before .before .before))
 
-same-length : tie.Need-same-length
-same-length c = search needs
-
 returns : tie.Need-returns
 unfolding field
 returns c =
@@ -28,4 +25,4 @@ returns c =
     put-then (n .put-number .ensures) (c .before .before .put-byte .ensures) (omega (arith, short (n .before .before .before)))
 
 pub put-field-spec : {M : Type 1} → statement M
-put-field-spec = tie.close (tie.spec put-number-requires put-byte-requires same-length returns)
+put-field-spec = tie.close (tie.spec put-number-requires put-byte-requires (λ c. search needs) returns)

@@ -14,13 +14,10 @@ slice-aggregate-put-text c = search needs
 put-text-requires : tie.Need-put-text-requires
 put-text-requires c κs = search needs
 
-same-length : tie.Need-same-length
-same-length c = search needs
-
 returns : tie.Need-returns
 unfolding headerLine bytes
 returns c = let p = c .before .before .put-text .ensures in put-within p (omega (arith, p .within))
 
 pub put-header-spec : {M : Type 1} → statement M
 put-header-spec =
-    tie.close (tie.spec slice-aggregate-put-text put-text-requires same-length returns)
+    tie.close (tie.spec slice-aggregate-put-text put-text-requires (λ c. search needs) returns)

@@ -12,13 +12,10 @@ put-text-requires c κs = search needs
 put-field-requires : tie.Need-put-field-requires
 put-field-requires c κs = search needs
 
-same-length : tie.Need-same-length
-same-length c = search needs
-
 returns : tie.Need-returns
 returns c =
     let p = c .before .before in
     put-then (p .before .before .before .before .put-text .ensures) (p .put-field .ensures) (omega arith)
 
 pub put-message-spec : {M : Type 1} → statement M
-put-message-spec = tie.close (tie.spec put-text-requires put-field-requires same-length returns)
+put-message-spec = tie.close (tie.spec put-text-requires put-field-requires (λ c. search needs) returns)

@@ -53,12 +53,6 @@ number-requires c κs = search needs
 put-refused-requires : tie.Need-put-refused-requires
 put-refused-requires c κs = search needs
 
-same-length : tie.Need-same-length
-same-length c = search needs
-
-same-length-2 : tie.Need-same-length-2
-same-length-2 c = search needs
-
 -- the numbers asked for, and what their fresh start came to
 abbrev asked : tie.After-lent-words → Switch
 asked c = switch (entry c .args .ports) (entry c .args .speedup) 0
@@ -79,12 +73,6 @@ returns c =
 
 put-header-requires : tie.Need-put-header-requires
 put-header-requires c κs = search needs
-
-same-length-3 : tie.Need-same-length-3
-same-length-3 c = search needs
-
-same-length-4 : tie.Need-same-length-4
-same-length-4 c = search needs
 
 returns-2 : tie.Need-returns-2
 unfolding firstText
@@ -113,10 +101,10 @@ begin-spec =
     is-done-requires
     number-requires
     put-refused-requires
-    same-length
-    same-length-2
+    (λ c. search needs)
+    (λ c. search needs)
     returns
     put-header-requires
-    same-length-3
-    same-length-4
+    (λ c. search needs)
+    (λ c. search needs)
     returns-2)

@@ -34,9 +34,6 @@ enum-told c = search needs
 put-unreadable-requires : tie.Need-put-unreadable-requires
 put-unreadable-requires c κs = search needs
 
-same-length : tie.Need-same-length
-same-length c = search needs
-
 -- the line's end: what the reader says of the line
 abbrev read : tie.After-finish → tie.Start
 read c = c .before .before .before .before
@@ -55,12 +52,6 @@ returns-2 c =
 begin-requires : tie.Need-begin-requires
 begin-requires c κs = search needs
 
-same-length-2 : tie.Need-same-length-2
-same-length-2 c = search needs
-
-same-length-3 : tie.Need-same-length-3
-same-length-3 c = search needs
-
 returns-3 : tie.Need-returns-3
 returns-3 c =
     let b = c .before .before .before .before in
@@ -77,9 +68,9 @@ first-step-spec =
     enum-known-ports
     enum-told
     put-unreadable-requires
-    same-length
+    (λ c. search needs)
     returns-2
     begin-requires
-    same-length-2
-    same-length-3
+    (λ c. search needs)
+    (λ c. search needs)
     returns-3)

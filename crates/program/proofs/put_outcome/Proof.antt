@@ -18,9 +18,6 @@ number-requires c κs = search needs
 put-refused-requires : tie.Need-put-refused-requires
 put-refused-requires c κs = search needs
 
-same-length : tie.Need-same-length
-same-length c = search needs
-
 returns : tie.Need-returns
 unfolding answerText
 returns c =
@@ -31,9 +28,6 @@ returns c =
 
 put-cells-requires : tie.Need-put-cells-requires
 put-cells-requires c κs = search needs
-
-same-length-2 : tie.Need-same-length-2
-same-length-2 c = search needs
 
 returns-2 : tie.Need-returns-2
 unfolding answerText
@@ -49,8 +43,8 @@ put-outcome-spec =
     is-done-requires
     number-requires
     put-refused-requires
-    same-length
+    (λ c. search needs)
     returns
     put-cells-requires
-    same-length-2
+    (λ c. search needs)
     returns-2)

@@ -42,9 +42,6 @@ part-put-cell-end c = search needs
 put-cell-requires : tie.Need-put-cell-requires
 put-cell-requires c κs = search needs
 
-same-length : tie.Need-same-length
-same-length c = search needs
-
 returns-2 : tie.Need-returns-2
 unfolding cellText part
 returns-2 c =
@@ -66,5 +63,5 @@ put-output-spec =
     part-put-cell-start
     part-put-cell-end
     put-cell-requires
-    same-length
+    (λ c. search needs)
     returns-2)

@@ -69,9 +69,6 @@ set-head-requires c κs =
       ),
     )
 
-same-length : tie.Need-same-length
-same-length c = search needs
-
 returns-2 : tie.Need-returns-2
 returns-2 c =
     let s = c .before .before in
@@ -93,5 +90,5 @@ join-spec =
     head-of-requires
     older-of-requires
     set-head-requires
-    same-length
+    (λ c. search needs)
     returns-2)

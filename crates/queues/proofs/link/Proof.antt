@@ -41,9 +41,6 @@ mul-queues-2 c = search needs
 slice-write-queues-2 : tie.Need-slice-write-queues-2
 slice-write-queues-2 c = simp length-set (omega arith)
 
-same-length : tie.Need-same-length
-same-length c = search needs
-
 returns : tie.Need-returns
 unfolding linked
 returns c = rw add-one refl
@@ -63,5 +60,5 @@ link-spec =
     add-queues-3
     mul-queues-2
     slice-write-queues-2
-    same-length
+    (λ c. search needs)
     returns)

@@ -12,11 +12,8 @@ set-head-requires c κs =
     let p = c .before .before .before .before .before .pre in
     (p .queues .long, (p .ports, rw (c .before .look .ensures) (head-fits p)))
 
-same-length : tie.Need-same-length
-same-length c = search needs
-
 returns : tie.Need-returns
 returns c = rw (← c .before .before .before .before .look .ensures) (c .before .before .set-head .ensures)
 
 pub renew-spec : {M : Type 1} → statement M
-renew-spec = tie.close (tie.spec look-requires set-head-requires same-length returns)
+renew-spec = tie.close (tie.spec look-requires set-head-requires (λ c. search needs) returns)

@@ -52,9 +52,6 @@ mul-queues-2 c = search needs
 slice-write-queues-2 : tie.Need-slice-write-queues-2
 slice-write-queues-2 c = simp length-set (omega arith)
 
-same-length : tie.Need-same-length
-same-length c = search needs
-
 returns : tie.Need-returns
 unfolding headSet
 returns c =
@@ -92,9 +89,6 @@ with-requires-3 c κs = search needs
 slice-write-queues-5 : tie.Need-slice-write-queues-5
 slice-write-queues-5 c = simp length-set (omega arith)
 
-same-length-2 : tie.Need-same-length-2
-same-length-2 c = search needs
-
 returns-2 : tie.Need-returns-2
 unfolding headSet
 returns-2 c =
@@ -119,7 +113,7 @@ set-head-spec =
     except-requires
     mul-queues-2
     slice-write-queues-2
-    same-length
+    (λ c. search needs)
     returns
     add-queues
     cast-queues
@@ -130,5 +124,5 @@ set-head-spec =
     slice-write-queues-4
     with-requires-3
     slice-write-queues-5
-    same-length-2
+    (λ c. search needs)
     returns-2)

@@ -9,14 +9,8 @@ read-requires c κs = search needs
 transfers-requires : tie.Need-transfers-requires
 transfers-requires c κs = search needs
 
-same-length : tie.Need-same-length
-same-length c = search needs
-
-same-length-2 : tie.Need-same-length-2
-same-length-2 c = search needs
-
 returns : tie.Need-returns
 returns c = let t = c .before .before .before .before in rw (← t .before .before .before .read .ensures) (t .transfers .ensures)
 
 pub treikwater-stage-phases-spec : {M : Type 1} → statement M
-treikwater-stage-phases-spec = tie.close (tie.spec read-requires transfers-requires same-length same-length-2 returns)
+treikwater-stage-phases-spec = tie.close (tie.spec read-requires transfers-requires (λ c. search needs) (λ c. search needs) returns)

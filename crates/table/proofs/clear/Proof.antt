@@ -39,9 +39,6 @@ loop-again c =
       below-more _ _ (λ k l. getD-set-other w i k 0 0 (omega arith) ∙ c .before .loop .inv .2 k l) (getD-set-same w i 0 0 (omega arith)),
     )
 
-same-length : tie.Need-same-length Inv-loop μ-loop
-same-length c = omega arith
-
 returns : tie.Need-returns Inv-loop μ-loop
 returns c =
     let w = c .before .loop .words in
@@ -61,5 +58,5 @@ clear-spec =
     add-i
     loop-less
     loop-again
-    same-length
+    (λ c. omega arith)
     returns)

@@ -9,11 +9,8 @@ free-cell-requires c κs = search needs
 put-cell-requires : tie.Need-put-cell-requires
 put-cell-requires c κs = search needs
 
-same-length : tie.Need-same-length
-same-length c = search needs
-
 returns : tie.Need-returns
 returns c = cc
 
 pub free-record-spec : {M : Type 1} → statement M
-free-record-spec = tie.close (tie.spec free-cell-requires put-cell-requires same-length returns)
+free-record-spec = tie.close (tie.spec free-cell-requires put-cell-requires (λ c. search needs) returns)

@@ -68,9 +68,6 @@ slice-write-table-5 : tie.Need-slice-write-table-5
 unfolding records
 slice-write-table-5 c = simp length-set (omega arith)
 
-same-length : tie.Need-same-length
-same-length c = search needs
-
 returns : tie.Need-returns
 returns c = simp towards-suc (store-with _ _ (c .pre) (c .args .c))
 
@@ -93,5 +90,5 @@ put-cell-spec =
     add-table-4
     mul-table-5
     slice-write-table-5
-    same-length
+    (λ c. search needs)
     returns)

@@ -18,11 +18,8 @@ slice-write-table : tie.Need-slice-write-table
 unfolding records
 slice-write-table c = omega arith
 
-same-length : tie.Need-same-length
-same-length c = search needs
-
 returns : tie.Need-returns
 returns c = place-with _ _ (c .pre) _
 
 pub set-place-spec : {M : Type 1} → statement M
-set-place-spec = tie.close (tie.spec mul-table mul-table-2 slice-write-table same-length returns)
+set-place-spec = tie.close (tie.spec mul-table mul-table-2 slice-write-table (λ c. search needs) returns)

@@ -45,12 +45,6 @@ advance-requires-2 c κs =
 enum-told : tie.Need-enum-told
 enum-told c = search needs
 
-same-length : tie.Need-same-length
-same-length c = search needs
-
-same-length-2 : tie.Need-same-length-2
-same-length-2 c = search needs
-
 returns : tie.Need-returns
 unfolding comingBy
 returns c =
@@ -62,15 +56,6 @@ returns c =
     let none = goes-none endRoom (e .args .piece .now) _ (e .args .from) (e .args .out .now) (e .args .at) tt (omega (arith, u)) in
     (rw (s .self .given .1) (goes-byte _ (e .args .arrivals .now) none (omega (arith, u)) refl t (t .put .within)), omega arith)
 
-same-length-3 : tie.Need-same-length-3
-same-length-3 c = search needs
-
-same-length-4 : tie.Need-same-length-4
-same-length-4 c = search needs
-
-same-length-5 : tie.Need-same-length-5
-same-length-5 c = search needs
-
 returns-2 : tie.Need-returns-2
 returns-2 c =
     let r = c .before .before .before .before .before .before in
@@ -79,15 +64,6 @@ returns-2 c =
     let b = inside-between (s .self2 .given .1) (g .inside) in
     let n = rw (r .before .before .before .before .start .ensures) at (r .advance .ensures .0) in
     (rw (s .self2 .given .1) (goes-begins (s .self2 .given .0 .0) b (g .lent .line-long) (omega (arith, g .unread)) n), r .advance .ensures .1)
-
-same-length-6 : tie.Need-same-length-6
-same-length-6 c = search needs
-
-same-length-7 : tie.Need-same-length-7
-same-length-7 c = search needs
-
-same-length-8 : tie.Need-same-length-8
-same-length-8 c = search needs
 
 returns-3 : tie.Need-returns-3
 returns-3 c =
@@ -113,15 +89,15 @@ advance-spec =
     enum-known-self-3
     advance-requires-2
     enum-told
-    same-length
-    same-length-2
+    (λ c. search needs)
+    (λ c. search needs)
     returns
-    same-length-3
-    same-length-4
-    same-length-5
+    (λ c. search needs)
+    (λ c. search needs)
+    (λ c. search needs)
     returns-2
-    same-length-6
-    same-length-7
-    same-length-8
+    (λ c. search needs)
+    (λ c. search needs)
+    (λ c. search needs)
     returns-3
     returns-4)

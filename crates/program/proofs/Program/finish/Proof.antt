@@ -36,26 +36,17 @@ put-end-requires c κs =
 enum-told-2 : tie.Need-enum-told-2
 enum-told-2 c = search needs
 
-same-length : tie.Need-same-length
-same-length c = search needs
-
 returns : tie.Need-returns
 unfolding closing
 returns c =
     let p = c .before .before in
     rw (p .before .before .enum-told .given .1) (put-within (p .put-unreadable .ensures) (omega (arith, p .put-unreadable .ensures .within)))
 
-same-length-2 : tie.Need-same-length-2
-same-length-2 c = search needs
-
 returns-2 : tie.Need-returns-2
 unfolding closing
 returns-2 c =
     let p = c .before .before in
     rw (p .before .before .before .self .given .1) (put-within (p .put-held .ensures) (omega (arith, p .put-held .ensures .within)))
-
-same-length-3 : tie.Need-same-length-3
-same-length-3 c = search needs
 
 returns-3 : tie.Need-returns-3
 unfolding closing
@@ -76,10 +67,10 @@ finish-spec =
     enum-known-self-2
     put-end-requires
     enum-told-2
-    same-length
+    (λ c. search needs)
     returns
-    same-length-2
+    (λ c. search needs)
     returns-2
-    same-length-3
+    (λ c. search needs)
     returns-3
     returns-4)

@@ -35,9 +35,6 @@ slice-aggregate-read c = sym (line-long (c .before))
 read-requires : tie.Need-read-requires
 read-requires c κs = search needs
 
-same-length : tie.Need-same-length
-same-length c = search needs
-
 abbrev lent : tie.After-read → tie.After-line-words
 lent c = c .before .before
 
@@ -72,15 +69,6 @@ add-t17 c =
     let t = c .before .before .before .before .before .before .before .before .before .before in
     omega (arith, more t, entry (lent (t .before .before .before .before)) .good)
 
-same-length-2 : tie.Need-same-length-2
-same-length-2 c = search needs
-
-same-length-3 : tie.Need-same-length-3
-same-length-3 c = search needs
-
-same-length-4 : tie.Need-same-length-4
-same-length-4 c = search needs
-
 returns-2 : tie.Need-returns-2
 unfolding comingBy
 returns-2 c =
@@ -104,11 +92,11 @@ advance-spec =
     slice-relend-prefix-read
     slice-aggregate-read
     read-requires
-    same-length
+    (λ c. search needs)
     returns
     end-line-requires
     add-t17
-    same-length-2
-    same-length-3
-    same-length-4
+    (λ c. search needs)
+    (λ c. search needs)
+    (λ c. search needs)
     returns-2)

@@ -38,15 +38,6 @@ finish-requires c κs = search needs
 put-end-requires : tie.Need-put-end-requires
 put-end-requires c κs = search needs
 
-same-length : tie.Need-same-length
-same-length c = search needs
-
-same-length-2 : tie.Need-same-length-2
-same-length-2 c = search needs
-
-same-length-3 : tie.Need-same-length-3
-same-length-3 c = search needs
-
 abbrev finished : tie.After-finish → tie.After-line-words
 finished c = c .before .before
 
@@ -78,15 +69,6 @@ slice-aggregate-slot c =
 slot-requires : tie.Need-slot-requires
 slot-requires c κs = search needs
 
-same-length-4 : tie.Need-same-length-4
-same-length-4 c = search needs
-
-same-length-5 : tie.Need-same-length-5
-same-length-5 c = search needs
-
-same-length-6 : tie.Need-same-length-6
-same-length-6 c = search needs
-
 returns-2 : tie.Need-returns-2
 returns-2 c =
     let s = c .before .before .before .before in
@@ -107,14 +89,14 @@ end-line-spec =
     slice-aggregate-finish
     finish-requires
     put-end-requires
-    same-length
-    same-length-2
-    same-length-3
+    (λ c. search needs)
+    (λ c. search needs)
+    (λ c. search needs)
     returns
     slice-reshare-prefix-slot
     slice-aggregate-slot
     slot-requires
-    same-length-4
-    same-length-5
-    same-length-6
+    (λ c. search needs)
+    (λ c. search needs)
+    (λ c. search needs)
     returns-2)

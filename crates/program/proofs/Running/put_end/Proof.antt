@@ -13,9 +13,6 @@ put-unreadable-requires c κs = search needs
 put-held-requires : tie.Need-put-held-requires
 put-held-requires c κs = search needs
 
-same-length : tie.Need-same-length
-same-length c = search needs
-
 returns : tie.Need-returns
 unfolding endText
 returns c =
@@ -23,4 +20,4 @@ returns c =
     put-then (p .before .before .before .before .put-unreadable .ensures) (p .put-held .ensures) (omega arith)
 
 pub put-end-spec : {M : Type 1} → statement M
-put-end-spec = tie.close (tie.spec put-unreadable-requires put-held-requires same-length returns)
+put-end-spec = tie.close (tie.spec put-unreadable-requires put-held-requires (λ c. search needs) returns)

@@ -28,9 +28,6 @@ cast-put-held c =
 put-held-requires : tie.Need-put-held-requires
 put-held-requires c κs = search needs
 
-same-length : tie.Need-same-length
-same-length c = search needs
-
 returns : tie.Need-returns
 unfolding heldText
 returns c = rw (c .before .before .before .before .held .ensures) at (c .before .before .put-held .ensures)
@@ -43,5 +40,5 @@ put-held-spec =
     held-requires
     cast-put-held
     put-held-requires
-    same-length
+    (λ c. search needs)
     returns)

@@ -40,18 +40,6 @@ put-outcome-requires c κs =
     let e = called s in
     ((e .pre .0 .sizes .ports, omega (arith, s .slot .kept .1 .1 .1 .1 .0, blank-long e)), omega (arith, e .pre .0 .room .room))
 
-same-length : tie.Need-same-length
-same-length c = search needs
-
-same-length-2 : tie.Need-same-length-2
-same-length-2 c = search needs
-
-same-length-3 : tie.Need-same-length-3
-same-length-3 c = search needs
-
-same-length-4 : tie.Need-same-length-4
-same-length-4 c = search needs
-
 returns : tie.Need-returns
 returns c =
     let p = c .before .before .before in
@@ -69,8 +57,8 @@ run-spec =
     slice-aggregate-slot
     slot-requires
     put-outcome-requires
-    same-length
-    same-length-2
-    same-length-3
-    same-length-4
+    (λ c. search needs)
+    (λ c. search needs)
+    (λ c. search needs)
+    (λ c. search needs)
     returns)

@@ -60,12 +60,6 @@ run-requires c κs =
     let e = entry (c .before .before .before .before) in
     (e .pre, record { no-matches = no-matches e; none-exhaled = none-exhaled e })
 
-same-length : tie.Need-same-length
-same-length c = search needs
-
-same-length-2 : tie.Need-same-length-2
-same-length-2 c = search needs
-
 returns : tie.Need-returns
 returns c = search needs
 
@@ -82,6 +76,6 @@ slot-spec =
     array-borrow-prefix-exhaled
     slice-aggregate-run-2
     run-requires
-    same-length
-    same-length-2
+    (λ c. search needs)
+    (λ c. search needs)
     returns)

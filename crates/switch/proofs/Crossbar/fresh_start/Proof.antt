@@ -37,9 +37,6 @@ check-start-requires c κs = search needs
 is-done-requires : tie.Need-is-done-requires
 is-done-requires c κs = search needs
 
-same-length : tie.Need-same-length
-same-length c = search needs
-
 returns : tie.Need-returns
 returns c =
     let s = entry (c .before .before) in
@@ -52,9 +49,6 @@ clear-requires c κs = search needs
 restarted-requires : tie.Need-restarted-requires
 restarted-requires c κs = search needs
 
-same-length-2 : tie.Need-same-length-2
-same-length-2 c = search needs
-
 returns-2 : tie.Need-returns-2
 returns-2 c =
     let cleared : tie.After-clear = c .before .before .before in
@@ -65,4 +59,4 @@ returns-2 c =
     (λ i. record { answer = d i; numbers = c .restarted .ensures i; table = cleared .clear .ensures i }) ∙ sym (fresh-accepted (w s) (table s) (done p))
 
 pub fresh-start-spec : {M : Type 1} → statement M
-fresh-start-spec = tie.close (tie.spec check-start-requires is-done-requires same-length returns clear-requires restarted-requires same-length-2 returns-2)
+fresh-start-spec = tie.close (tie.spec check-start-requires is-done-requires (λ c. search needs) returns clear-requires restarted-requires (λ c. search needs) returns-2)

@@ -68,9 +68,6 @@ slice-write-words-2 c = simp length-set (omega arith)
 add-t12 : tie.Need-add-t12
 add-t12 c = search needs
 
-same-length : tie.Need-same-length
-same-length c = search needs
-
 returns-4 : tie.Need-returns-4
 unfolding endField written
 returns-4 c =
@@ -93,5 +90,5 @@ end-field-spec =
     mul-words-2
     slice-write-words-2
     add-t12
-    same-length
+    (λ c. search needs)
     returns-4)

@@ -12,9 +12,6 @@ end-field-requires c κs = search needs
 is-good-requires : tie.Need-is-good-requires
 is-good-requires c κs = search needs
 
-same-length : tie.Need-same-length
-same-length c = search needs
-
 abbrev ended : tie.After-is-good → tie.After-end-field
 ended c = c .before .before .before
 
@@ -23,9 +20,6 @@ unfolding isComplete
 returns c =
     let e = ended (c .before) .end-field .ensures in
     record { read = rw (← e) (rw (sym (c .before .is-good .ensures) ∙ c .if1 .taken)); left = ap (λ (s : LineState). s .words) e }
-
-same-length-2 : tie.Need-same-length-2
-same-length-2 c = search needs
 
 returns-2 : tie.Need-returns-2
 unfolding isComplete
@@ -36,4 +30,4 @@ returns-2 c =
 pub finish-spec : {M : Type 1} → statement M
 finish-spec =
     tie.close
-    (tie.spec end-field-requires is-good-requires same-length returns same-length-2 returns-2)
+    (tie.spec end-field-requires is-good-requires (λ c. search needs) returns (λ c. search needs) returns-2)
