@@ -39,15 +39,19 @@ pub record StartedWords : Type 0 where
 abbrev pub startedWords : Started → StartedWords
 startedWords s = record { number = numberOf (s .answer); numbers = numbersOf (s .numbers); table = s .table }
 
+-- the numbers are none: all is left as found
+abbrev pub startUnnumbered : List ℕ → List ℕ → StartedWords
+startUnnumbered numbers table = record { number = noNumbers; numbers = numbers; table = table }
+
 unfoldable pub startOfWords : List ℕ → List ℕ → StartedWords
 startOfWords numbers table =
-    cond (eqb (length numbers) numberWidth) (startedWords (freshStart (switchOf numbers) table)) (record { number = noNumbers; numbers = numbers; table = table })
+    cond (eqb (length numbers) numberWidth) (startedWords (freshStart (switchOf numbers) table)) (startUnnumbered numbers table)
 
 pub started-numbered : (numbers table : List ℕ) → length numbers ≡ numberWidth → startOfWords numbers table ≡ startedWords (freshStart (switchOf numbers) table)
 unfolding startOfWords
 started-numbered numbers table e = rw (eq-eqb (length numbers) numberWidth e) refl
 
-pub started-unnumbered : (numbers table : List ℕ) → (length numbers ≡ numberWidth → ⊥) → startOfWords numbers table ≡ record { number = noNumbers; numbers = numbers; table = table }
+pub started-unnumbered : (numbers table : List ℕ) → (length numbers ≡ numberWidth → ⊥) → startOfWords numbers table ≡ startUnnumbered numbers table
 unfolding startOfWords
 started-unnumbered numbers table d = rw (ne-eqb (length numbers) numberWidth d) refl
 
@@ -64,19 +68,18 @@ abbrev pub outcomeWords : Outcome → OutcomeWords
 outcomeWords s =
     record { number = numberOf (s .answer); numbers = numbersOf (s .numbers); table = s .table; matches = s .matches; exhaled = s .exhaled }
 
--- the numbers are none: all is left as found
-abbrev pub unnumbered : List ℕ → List ℕ → Lists → OutcomeWords
-unnumbered numbers table l = record { number = noNumbers; numbers = numbers; table = table; matches = l .matches; exhaled = l .exhaled }
+abbrev pub slotUnnumbered : List ℕ → List ℕ → Lists → OutcomeWords
+slotUnnumbered numbers table l = record { number = noNumbers; numbers = numbers; table = table; matches = l .matches; exhaled = l .exhaled }
 
 unfoldable pub slotOfWords : List ℕ → List ℕ → Lists → OutcomeWords
-slotOfWords numbers table l = cond (eqb (length numbers) numberWidth) (outcomeWords (slot (switchOf numbers) table l)) (unnumbered numbers table l)
+slotOfWords numbers table l = cond (eqb (length numbers) numberWidth) (outcomeWords (slot (switchOf numbers) table l)) (slotUnnumbered numbers table l)
 
 module _ (numbers table : List ℕ) (l : Lists) where
   pub slot-numbered : length numbers ≡ numberWidth → slotOfWords numbers table l ≡ outcomeWords (slot (switchOf numbers) table l)
   unfolding slotOfWords
   slot-numbered e = rw (eq-eqb (length numbers) numberWidth e) refl
 
-  pub slot-unnumbered : (length numbers ≡ numberWidth → ⊥) → slotOfWords numbers table l ≡ unnumbered numbers table l
+  pub slot-unnumbered : (length numbers ≡ numberWidth → ⊥) → slotOfWords numbers table l ≡ slotUnnumbered numbers table l
   unfolding slotOfWords
   slot-unnumbered d = rw (ne-eqb (length numbers) numberWidth d) refl
 

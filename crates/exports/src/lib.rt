@@ -37,7 +37,8 @@ fn write_numbers(numbers: &mut [u32], w: Switch)
 // A fresh start: 0, or 1, 2 or 3, and 255 for a list of numbers that has not three words. Not done, it changes nothing.
 #[no_mangle]
 pub extern "C" fn treikwater_fresh_start(numbers: &mut [u32], table: &mut [u32]) -> u32
-    ensures { λ r. ⌜ record { number = r; numbers = now (numbers .exit); table = now (table .exit) } ≡ startOfWords (now (numbers .entry)) (now (table .entry)) ⌝ }
+    ensures { λ r. ⌜ record { number = r; numbers = now (numbers .exit); table = now (table .exit) }
+        ≡ startOfWords (now (numbers .entry)) (now (table .entry)) ⌝ }
 {
     if numbers.len() != NUMBER_WORDS {
         return NO_NUMBERS;
@@ -60,7 +61,14 @@ pub extern "C" fn treikwater_slot(
     matches: &mut [u32],
     exhaled: &mut [u32],
 ) -> u32
-    ensures { λ r. ⌜ record { number = r; numbers = now (numbers .exit); table = now (table .exit); matches = now (matches .exit); exhaled = now (exhaled .exit) } ≡ slotOfWords (now (numbers .entry)) (now (table .entry)) (lists (now (arrivals .entry)) (now (matches .entry)) (now (exhaled .entry))) ⌝ }
+    ensures { λ r. ⌜ record {
+      number = r;
+      numbers = now (numbers .exit);
+      table = now (table .exit);
+      matches = now (matches .exit);
+      exhaled = now (exhaled .exit);
+    }
+        ≡ slotOfWords (now (numbers .entry)) (now (table .entry)) (lists (now (arrivals .entry)) (now (matches .entry)) (now (exhaled .entry))) ⌝ }
 {
     if numbers.len() != NUMBER_WORDS {
         return NO_NUMBERS;

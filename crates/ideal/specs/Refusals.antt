@@ -209,7 +209,11 @@ module _ (cs ds : List Check) (r : So (refuses cs)) where
 
   -- both groups are passed where all rows are
   pub group-both : So (isDone (firstOf (cs ++ ds))) → So (isDone (firstOf cs)) × So (isDone (firstOf ds))
-  group-both h = ⊎-elim (λ x. (x, ap isDone (sym (group-goes-on x)) ∙ h)) (λ x. absurd (refuted (ap isDone (sym (group-stops x)) ∙ h) x)) (passes (isDone (firstOf cs)))
+  group-both h =
+      ⊎-elim
+      (λ x. (x, ap isDone (sym (group-goes-on x)) ∙ h))
+      (λ x. absurd (refuted (ap isDone (sym (group-stops x)) ∙ h) x))
+      (passes (isDone (firstOf cs)))
 
 -- The two calls ----------------------------------------------------------------------------------
 

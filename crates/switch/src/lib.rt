@@ -22,7 +22,8 @@ pub struct Outcome {
 impl Crossbar {
     // Starts afresh with the numbers' N and S: next slot 0, every record free. Refused with 1, 2 or 3, and then nothing changes.
     pub fn fresh_start(self, table: &mut [u32]) -> Outcome
-        ensures { λ r. ⌜ record { answer = r .answer; numbers = r .crossbar .numbers; table = now (table .exit) } ≡ freshStart (self .numbers) (now (table .entry)) ⌝ }
+        ensures { λ r. ⌜ record { answer = r .answer; numbers = r .crossbar .numbers; table = now (table .exit) }
+            ≡ freshStart (self .numbers) (now (table .entry)) ⌝ }
     {
         let w = self.numbers;
         let sizes = checks::check_start(w, table);
@@ -50,7 +51,14 @@ impl Crossbar {
         matches: &mut [u32],
         exhaled: &mut [u32],
     ) -> Outcome
-        ensures { λ r. ⌜ record { answer = r .answer; numbers = r .crossbar .numbers; table = now (table .exit); matches = now (matches .exit); exhaled = now (exhaled .exit) } ≡ slot (self .numbers) (now (table .entry)) (lists (now (arrivals .entry)) (now (matches .entry)) (now (exhaled .entry))) ⌝ }
+        ensures { λ r. ⌜ record {
+          answer = r .answer;
+          numbers = r .crossbar .numbers;
+          table = now (table .exit);
+          matches = now (matches .exit);
+          exhaled = now (exhaled .exit);
+        }
+            ≡ slot (self .numbers) (now (table .entry)) (lists (now (arrivals .entry)) (now (matches .entry)) (now (exhaled .entry))) ⌝ }
     {
         let w = self.numbers;
         let answer = checks::check_slot(w, table, arrivals, matches, exhaled);

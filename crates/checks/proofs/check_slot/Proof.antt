@@ -81,7 +81,8 @@ lists-done c = group-passed (c .before .before .check-lists .ensures) (c .before
 
 behind-lists : (c : tie.Else3) → Answers (lists-at c) (fromArrivals (lists-at c))
 unfolding refuses isDone
-behind-lists c = behind-table (c .before .before .before) ∙ group-goes-on (listChecks (w (lists-at c)) (ls (lists-at c))) (fromArrivals (lists-at c)) refl (lists-done c)
+behind-lists c =
+    behind-table (c .before .before .before) ∙ group-goes-on (listChecks (w (lists-at c)) (ls (lists-at c))) (fromArrivals (lists-at c)) refl (lists-done c)
 
 -- the arrivals that the lists check found long enough
 long : (c : tie.Else3) → w (lists-at c) .ports * arrivalWidth ≤ length (ls (lists-at c) .arrivals)
@@ -137,7 +138,8 @@ unfolding refuses isDone
 returns-2 c =
     let p = c .before .before .before in
     let s = sizes-at p in
-    answers s (tableChecks (w s) (table s)) (fromLists s) refl (behind-sizes p) (c .before .before .check-table .ensures) (c .before .is-done2 .ensures) (c .if2 .taken)
+    answers s (tableChecks (w s) (table s)) (fromLists s) refl (behind-sizes p)
+    (c .before .before .check-table .ensures) (c .before .is-done2 .ensures) (c .if2 .taken)
 
 check-lists-requires : tie.Need-check-lists-requires
 check-lists-requires c κs =
@@ -153,7 +155,8 @@ unfolding refuses isDone
 returns-3 c =
     let p = c .before .before .before in
     let s = table-at p in
-    answers s (listChecks (w s) (ls s)) (fromArrivals s) refl (behind-table p) (c .before .before .check-lists .ensures) (c .before .is-done3 .ensures) (c .if3 .taken)
+    answers s (listChecks (w s) (ls s)) (fromArrivals s) refl (behind-table p)
+    (c .before .before .check-lists .ensures) (c .before .is-done3 .ensures) (c .if3 .taken)
 
 check-arrivals-requires : tie.Need-check-arrivals-requires
 check-arrivals-requires c κs = long c
@@ -166,7 +169,8 @@ unfolding refuses isDone
 returns-4 c =
     let p = c .before .before .before in
     let s = lists-at p in
-    answers s (arrivalChecks (w s) (ls s .arrivals)) (fromClock s) refl (behind-lists p) (c .before .before .check-arrivals .ensures) (c .before .is-done4 .ensures) (c .if4 .taken)
+    answers s (arrivalChecks (w s) (ls s .arrivals)) (fromClock s) refl (behind-lists p)
+    (c .before .before .check-arrivals .ensures) (c .before .is-done4 .ensures) (c .if4 .taken)
 
 check-clock-requires : tie.Need-check-clock-requires
 check-clock-requires c κs = search needs

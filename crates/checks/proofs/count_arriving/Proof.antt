@@ -31,7 +31,9 @@ shared-slice-read-if1 : tie.Need-shared-slice-read-if1 Inv-loop μ-loop
 shared-slice-read-if1 c = omega arith
 
 add-found : tie.Need-add-found Inv-loop μ-loop
-add-found c = omega (arith, c .before .before .before .loop .inv .1, count-le (arrives (now (c .before .before .before .before .args .arrivals))) (c .before .before .before .loop .i))
+add-found c =
+    let turn : tie.At-loop Inv-loop μ-loop = c .before .before .before in
+    omega (arith, turn .loop .inv .1, count-le (arrives (now (turn .before .args .arrivals))) (turn .loop .i))
 
 add-i : tie.Need-add-i Inv-loop μ-loop
 add-i c = omega arith

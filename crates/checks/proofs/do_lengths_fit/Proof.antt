@@ -21,7 +21,9 @@ unfolding lengthsFit
 returns c = rw (ne-eqb _ _ (c .if1 .taken))
 
 mul-if2 : tie.Need-mul-if2
-mul-if2 c = let w = c .before .before .before .args .w in record { fits = omega (arith, c .before .before .before .pre, mul-le-mul-right (w .ports) (c .before .before .before .pre .1)) }
+mul-if2 c =
+    let s : tie.Start = c .before .before .before in
+    record { fits = omega (arith, s .pre, mul-le-mul-right (s .args .w .ports) (s .pre .1)) }
 
 returns-2 : tie.Need-returns-2
 unfolding lengthsFit

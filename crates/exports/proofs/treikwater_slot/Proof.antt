@@ -37,7 +37,13 @@ returns-2 c =
     let right : tie.Else1 = read .before .before in
     let s : tie.Start = right .before .before .before .before .before .before in
     let q = called .slot in
-    (λ i. record { number = c .number .ensures i; numbers = written .write-numbers .ensures i; table = q .last .1 .0; matches = q .last .1 .1 .1 .0; exhaled = q .last .1 .1 .1 .1 .0 })
+    (λ i. record {
+      number = c .number .ensures i;
+      numbers = written .write-numbers .ensures i;
+      table = q .last .1 .0;
+      matches = q .last .1 .1 .1 .0;
+      exhaled = q .last .1 .1 .1 .1 .0;
+    })
     ∙ ap outcomeWords (q .ensures)
     ∙ ap (λ (w : Switch). outcomeWords (slot w (now (s .args .table)) (ls s))) (read .read-numbers .ensures)
     ∙ sym (slot-numbered (now (s .args .numbers)) (now (s .args .table)) (ls s) (right .if1 .left))

@@ -59,4 +59,6 @@ returns-2 c =
     (λ i. record { answer = d i; numbers = c .restarted .ensures i; table = cleared .clear .ensures i }) ∙ sym (fresh-accepted (w s) (table s) (done p))
 
 pub fresh-start-spec : {M : Type 1} → statement M
-fresh-start-spec = tie.close (tie.spec check-start-requires is-done-requires (λ c. search needs) returns clear-requires restarted-requires (λ c. search needs) returns-2)
+fresh-start-spec =
+    tie.close
+    (tie.spec check-start-requires is-done-requires (λ c. search needs) returns clear-requires restarted-requires (λ c. search needs) returns-2)

@@ -54,7 +54,8 @@ returns : tie.Need-returns
 returns c =
     let s = entry (c .before .before) in
     let e = c .before .before .check-slot .ensures in
-    ap (λ (x : Answer). slotRefused x (w s) (table s) (ls s)) e ∙ sym (slot-refused (w s) (table s) (ls s) (group-refused e (c .before .is-done .ensures) (c .if1 .taken)))
+    let r = group-refused e (c .before .is-done .ensures) (c .if1 .taken) in
+    ap (λ (x : Answer). slotRefused x (w s) (table s) (ls s)) e ∙ sym (slot-refused (w s) (table s) (ls s) r)
 
 run-requires : tie.Need-run-requires
 run-requires c κs = accepted (c .before .before .before)
@@ -72,7 +73,8 @@ returns-2 c =
     let q = ran c .run .ensures in
     let e = p .before .before .check-slot .ensures in
     let d = slot-is-done (w s) (table s) (ls s) e (ap isDone e ∙ done p) in
-    (λ i. record { answer = d i; numbers = c .raised .ensures i; table = q .cells i; matches = q .matched i; exhaled = q .emitted i }) ∙ sym (slot-accepted (w s) (table s) (ls s) (done p))
+    (λ i. record { answer = d i; numbers = c .raised .ensures i; table = q .cells i; matches = q .matched i; exhaled = q .emitted i })
+    ∙ sym (slot-accepted (w s) (table s) (ls s) (done p))
 
 pub slot-spec : {M : Type 1} → statement M
 slot-spec =
