@@ -31,7 +31,9 @@ returns-2 c = rw (whole (c .before), eq-eqb _ _ (sym (c .before .record-count .e
 
 returns-3 : tie.Need-returns-3
 unfolding sizeUnfit outside
-returns-3 c = rw (whole (c .before), ne-eqb _ _ (λ e. c .if2 .left (c .before .record-count .ensures ∙ e))) (ap (ltb mostRecords) (c .before .record-count .ensures))
+returns-3 c =
+    let n = c .before .record-count .ensures in
+    rw (whole (c .before), ne-eqb _ _ (λ e. c .if2 .left (n ∙ e))) (ap (ltb mostRecords) n)
 
 pub is-size-unfit-spec : {M : Type 1} → statement M
 is-size-unfit-spec =
