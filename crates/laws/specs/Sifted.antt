@@ -1,4 +1,4 @@
--- Numbers sifted down in one pass, each behind the last one that stays. The first m words of the list are numbers below n, in rising order, and of
+-- Numbers sifted out in one pass, each behind the last one that stays. The first m words of the list are numbers below n, in rising order, and of
 -- every number below n that is not among them it is known that it may be left out. `Chosen` is the pass that settles which stay: those of a test.
 -- Assumes nothing.
 use mathlib.Core.Path.{_≡_, refl, sym, ap, _∙_}

@@ -42,7 +42,7 @@ candidate ins outs c = waitsAmong ins (λ o. not (outs o)) c
 unfoldable pub firstCandidate : List ℕ → (ℕ → Bool) → (ℕ → Bool) → List Cell → Found
 firstCandidate r ins outs cs = least (λ k. candidate ins outs (nth cs k)) (λ i j. before r (nth cs i) (nth cs j)) (length cs)
 
--- The table us becomes vs, the taken ports q next, what is sifted ns ms: record k becomes ready, its ports are taken, its input is sifted at its
+-- The table us becomes vs, the taken ports q next, the inputs served ns ms: record k becomes ready, its ports are taken, its input is kept at its
 -- output. The queues are those of the new table.
 pub record Takes (us : List ℕ) (q : Taken) (ns : List ℕ) (k : ℕ) (vs qs : List ℕ) (next : Taken) (ms : List ℕ) : Type 0 where
   pub table : vs ≡ stored us k (placed 2 (nth (cellsOf us) k))
@@ -51,7 +51,7 @@ pub record Takes (us : List ℕ) (q : Taken) (ns : List ℕ) (k : ℕ) (vs qs : 
   pub outputs : Added (q .outputs) (nth (cellsOf us) k .output .0) (next .outputs)
   pub served : ms ≡ set ns (nth (cellsOf us) k .output .0) (nth (cellsOf us) k .input .0)
 
--- us, q and ns show that the records of p were picked from the table ws: they are ready, their ports are taken, their inputs are sifted at their
+-- us, q and ns show that the records of p were picked from the table ws: they are ready, their ports are taken, their inputs are kept at their
 -- outputs
 pub record Shows (ws : List ℕ) (p : ℕ → Bool) (us : List ℕ) (q : Taken) (ns : List ℕ) : Type 0 where
   pub table : us ≡ withRecords ws (moved p (cellsOf ws))

@@ -117,7 +117,7 @@ fn first_candidate(table: &[u32], queues: &[u16], r: Reading, taken: Taken, lows
     }
 }
 
-// The cell of record k becomes ready and takes its ports, and its input is sifted at its output; the head of its pair is found anew.
+// The cell of record k becomes ready and takes its ports, and its input is kept at its output; the head of its pair is found anew.
 fn take(
     table: &mut [u32],
     queues: &mut [u16],
@@ -139,7 +139,7 @@ fn take(
     }
 }
 
-// Rounds of picking: the first candidate is taken, again and again, until there is none. For each taken output the input served is sifted.
+// Rounds of picking: the first candidate is taken, again and again, until there is none. For each taken output the input served is kept.
 fn pick(
     table: &mut [u32],
     queues: &mut [u16],

@@ -1,4 +1,4 @@
--- After i rounds the table, the taken ports and what is sifted show the cells that i rounds of the rules pick, and the queues are the table's;
+-- After i rounds the table, the taken ports and the inputs served show the cells that i rounds of the rules pick, and the queues are the table's;
 -- the outputs kept stay those with the lowest reading.
 use Prim.Native.Nat.{_-_, _<_}
 use mathlib.Core.Path.{_≡_, refl, sym, _∙_}
