@@ -12,7 +12,7 @@ use Rattle.laws.specs.Count.{count}
 use Rattle.rules.specs.declared.Cell.{Cell}
 use Rattle.rules.specs.Cells.{outputOf, isReadyFor}
 use Rattle.ideal.specs.Cells.{readyFor→, →readyFor}
-use Rattle.demands.specs.Ages.{rank}
+use Rattle.demands.specs.Ages.{standing}
 
 -- the ready cells for an output, of n records
 abbrev pub readyIn : ℕ → (ℕ → Cell) → ℕ → ℕ
@@ -20,14 +20,14 @@ readyIn n t o = count (λ k. isReadyFor (outputOf o) (t k)) n
 
 -- c waits where l does, and is l or stands before it
 unfoldable pub isAhead : (ℕ → ℕ) → Cell → Cell → Bool
-isAhead r l c = eqb (c .place) 1 && eqb (c .input .0) (l .input .0) && leb (rank r c) (rank r l)
+isAhead r l c = eqb (c .place) 1 && eqb (c .input .0) (l .input .0) && leb (standing r c) (standing r l)
 
 module _ (r : ℕ → ℕ) (l c : Cell) where
-  pub ahead→ : So (isAhead r l c) → (c .place ≡ 1) × (c .input .0 ≡ l .input .0) × (rank r c ≤ rank r l)
+  pub ahead→ : So (isAhead r l c) → (c .place ≡ 1) × (c .input .0 ≡ l .input .0) × (standing r c ≤ standing r l)
   unfolding isAhead
   ahead→ h = let a = both _ _ h in let b = both _ _ (a .0) in (eqb-true _ _ (b .0), eqb-true _ _ (b .1), leb-true _ _ (a .1))
 
-  pub →ahead : c .place ≡ 1 → c .input .0 ≡ l .input .0 → rank r c ≤ rank r l → So (isAhead r l c)
+  pub →ahead : c .place ≡ 1 → c .input .0 ≡ l .input .0 → standing r c ≤ standing r l → So (isAhead r l c)
   unfolding isAhead
   →ahead h k m = join _ _ (join _ _ (eq-eqb _ _ h) (eq-eqb _ _ k)) (le-leb _ _ m)
 

@@ -17,7 +17,7 @@ use Rattle.rules.specs.Phases.{isEmitted}
 use Rattle.ideal.specs.Cells.{→readyFor}
 use Rattle.ideal.specs.Fit.{Fit}
 use Rattle.ideal.specs.Exhale.{emitted→, some-emitted}
-use Rattle.demands.specs.Ages.{age, older→, not-older→}
+use Rattle.demands.specs.Ages.{age, aged, older→, not-older→}
 use Rattle.demands.specs.Led.{Leader, Led}
 
 module _ {n : ℕ} {t : Slot} {cs : List Cell} {key : Cell → ℕ} (f : Fit n t cs) (led : Led (length cs) key (nth cs)) where
@@ -45,8 +45,8 @@ module _ {n : ℕ} {t : Slot} {cs : List Cell} (ports : n ≤ mostPorts) (f : Fi
       let e = emitted→ n cs k x in
       let d = lead f led j l w in
       let c : Cell = nth cs (d .number) in
-      let ik : nth cs k .input .0 < mostPorts = omega (arith, f .each k (e .below) .input (omega (arith, e .ready))) in
-      let ij : nth cs j .input .0 < mostPorts = omega (arith, f .each j l .input w) in
-      let ic : c .input .0 < mostPorts = omega (arith, f .each (d .number) (d .below) .input (omega (arith, d .ready))) in
+      let ik = aged ports (f .each k (e .below)) (omega (arith, e .ready)) in
+      let ij = aged ports (f .each j l) w in
+      let ic = aged ports (f .each (d .number) (d .below)) (omega (arith, d .ready)) in
       let a = not-older→ c (nth cs k) ic ik (e .first (d .number) (d .below) (→readyFor (nth cs k .output) c (d .ready) (d .output ∙ o))) in
       to-no (λ h. omega (arith, d .first, a, older→ (nth cs j) (nth cs k) ij ik h))

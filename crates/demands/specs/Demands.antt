@@ -13,13 +13,13 @@ use Rattle.laws.specs.Tests.{No, refuted}
 use Rattle.rules.specs.declared.Switch.{Switch}
 use Rattle.rules.specs.declared.Cell.{Cell}
 use Rattle.rules.specs.Cells.{switch, cellsOf, nth, isLive, fit, older}
-use Rattle.rules.specs.Answers.{Lists, lists, arrives, live}
+use Rattle.rules.specs.Answers.{Lists, arrives, live}
 use Rattle.rules.specs.Phases.{arrival, readings, matchOf, phases, isEmitted}
 use Rattle.rules.specs.Calls.{State, Call, starts, slots, Answered, does, run}
 use Rattle.rules.specs.Model.{among, arrived, Slotted}
 use Rattle.rules.specs.Demands.{isAccepted, runsSlot, unbroken, callAt, stateAt, inhaled, atExhale, elders, emits, emitted, Leaves}
 use Rattle.rules.specs.Demands.{brings, emissions, since, Ran, left}
-use Rattle.rules.specs.Examples.{zeros, arrivalsOf, bothSend, oneSends}
+use Rattle.rules.specs.Examples.{listsOf, arrivalsOf, bothSend, oneSends}
 use Rattle.ideal.specs.Fit.{→fit}
 use Rattle.ideal.specs.Cells.{live→}
 use Rattle.ideal.specs.Calls.{slot-meets, slot-distinct}
@@ -89,7 +89,7 @@ pub needs-speedup : LeavesOnTime 1 → ⊥
 needs-speedup h =
     refuted
     (h .leaves origin (switch 2 1 9) (example .starts-fresh) (arrivalsOf 2 1 bothSend ∷ []) (omega (arith, example .speedup))
-    (lists oneSends (zeros 2) (zeros 8)) (example .accepted) 1 (omega (arith, example .ports)) (example .arrived)
+    (listsOf 2 1 oneSends) (example .accepted) 1 (omega (arith, example .ports)) (example .arrived)
     [] (example .whole) 0 (example .slot) .then (example .due) .0)
     (example .idle)
 

@@ -13,7 +13,7 @@ use Rattle.laws.specs.Tests.{No, both, join, passes, refuted, denied, deny}
 use Rattle.laws.specs.Count.{count, count-either, count-none, count-mono}
 use Rattle.laws.specs.Least.{largest-key}
 use Rattle.rules.specs.declared.Cell.{Cell}
-use Rattle.demands.specs.Ages.{age, reach, rank}
+use Rattle.demands.specs.Ages.{age, reach, standing}
 use Rattle.demands.specs.Ahead.{readyIn, isAhead, ahead→, →ahead, isYounger, younger→, Slack}
 
 -- k waits at input i in u, and did not wait in t
@@ -80,7 +80,7 @@ module _ {n : ℕ} {key : Cell → ℕ} {v : ℕ} {r : ℕ → ℕ} {t u : ℕ �
         few′ = omega (arith, m .few ((u l) .input .0), count-mono (λ k. before-l (u k)) (comes t u ((u l) .input .0)) n only)
 
     -- d is the last, by the old reading, of the old cells before l
-    module _ (d : ℕ) (hd : d < n) (od : So (old d)) (last : (j : ℕ) → j < n → So (old j) → rank r (t j) ≤ rank r (t d)) where
+    module _ (d : ℕ) (hd : d < n) (od : So (old d)) (last : (j : ℕ) → j < n → So (old j) → standing r (t j) ≤ standing r (t d)) where
       ranked : (k : ℕ) → k < n → So (old k) → So (isAhead r (t d) (t k))
       ranked k i y =
           let p = was k i y in
@@ -118,7 +118,7 @@ module _ {n : ℕ} {key : Cell → ℕ} {v : ℕ} {r : ℕ → ℕ} {t u : ℕ �
       some-old = let w = was d hd od in omega (arith, lead .3, lower, mul-le-mul-left v many, inv .slack (lead .0) d (lead .1) hd (w .1) (lead .2))
 
     each : Goal
-    each = ⊎-elim (λ x. some-old (x .0) (x .1) (x .2) (x .3)) all-come (largest-key old (λ k. rank r (t k)) n)
+    each = ⊎-elim (λ x. some-old (x .0) (x .1) (x .2) (x .3)) all-come (largest-key old (λ k. standing r (t k)) n)
 
   pub exchange-keeps : Slack n key v (readyIn n u) u 0 c
   exchange-keeps = record { slack = each }

@@ -14,7 +14,7 @@ use Rattle.laws.specs.Count.{count, count-either, count-none, count-one, count-
 use Rattle.rules.specs.declared.Cell.{Cell}
 use Rattle.rules.specs.Cells.{outputOf, placed, isReadyFor}
 use Rattle.ideal.specs.Cells.{place≡, readyFor→, →readyFor}
-use Rattle.demands.specs.Ages.{rank}
+use Rattle.demands.specs.Ages.{standing}
 use Rattle.demands.specs.Policy.{Weighs}
 use Rattle.demands.specs.Ahead.{readyIn, isAhead, ahead→, →ahead, isYounger, younger→, Slack}
 
@@ -26,7 +26,7 @@ pub record Phase (n : ℕ) (key : Cell → ℕ) (r : ℕ → ℕ) (m : ℕ → B
   pub outputs : (j k : ℕ) → j < n → k < n → So (m j) → So (m k) → (t j) .output .0 ≡ (t k) .output .0 → j ≡ k
   pub blocked : (k : ℕ) → k < n → (t k) .place ≡ 1 → No (m k)
       → (d : ℕ) × (d < n) × So (m d)
-      × ((((t d) .input .0 ≡ (t k) .input .0) × (rank r (t d) ≤ rank r (t k))) ⊎ (((t d) .output .0 ≡ (t k) .output .0) × (key (t d) ≤ key (t k))))
+      × ((((t d) .input .0 ≡ (t k) .input .0) × (standing r (t d) ≤ standing r (t k))) ⊎ (((t d) .output .0 ≡ (t k) .output .0) × (key (t d) ≤ key (t k))))
 
 module _ {n : ℕ} {key : Cell → ℕ} {v : ℕ} {r : ℕ → ℕ} {m : ℕ → Bool} {t u : ℕ → Cell} {a b : ℕ}
     (law : Weighs key v) (p : Phase n key r m t u) (inv : Slack n key v r t a b) where

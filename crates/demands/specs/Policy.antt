@@ -19,7 +19,7 @@ use Rattle.ideal.specs.Cells.{waiting→, →waiting, conflict→, by-output}
 use Rattle.ideal.specs.Fit.{Fit}
 use Rattle.ideal.specs.Match.{match-is}
 use Rattle.ideal.specs.Phases.{Picks, match-picks}
-use Rattle.demands.specs.Ages.{age, older→, before-older}
+use Rattle.demands.specs.Ages.{age, aged, older→, before-older}
 
 -- a waiting cell weighs v: where keys differ at all, v is 2; and no key is above that of a later cell
 pub record Weighs (key : Cell → ℕ) (v : ℕ) : Type 0 where
@@ -52,8 +52,8 @@ match-advances {cs = cs} {r} f ports a = record {
   blocked = λ k l w x.
       let d = a .beaten k l (→waiting _ w) x in
       let v = waiting→ _ (a .waits (d .0) (d .1) (d .2)) in
-      let id : nth cs (d .0) .input .0 < mostPorts = omega (arith, f .each (d .0) (d .1) .input (omega arith)) in
-      let ik : nth cs k .input .0 < mostPorts = omega (arith, f .each k l .input (omega arith)) in (
+      let id = aged ports (f .each (d .0) (d .1)) (omega arith) in
+      let ik = aged ports (f .each k l) (omega arith) in (
         d .0,
         d .1,
         d .2,

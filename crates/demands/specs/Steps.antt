@@ -24,7 +24,7 @@ use Rattle.ideal.specs.Phases.{moved-yes, moved-no, Picks}
 use Rattle.ideal.specs.Inhale.{Inhaled, inhaled-was}
 use Rattle.ideal.specs.Exhale.{exhale-kept, exhale-left}
 use Rattle.ideal.specs.Meets.{one-each}
-use Rattle.demands.specs.Ages.{age, slotEnd, reach, rank, before→}
+use Rattle.demands.specs.Ages.{age, slotEnd, reach, standing, aged, age-below, age-later, before→}
 use Rattle.demands.specs.Ahead.{readyIn}
 use Rattle.demands.specs.Exchange.{comes, comes→, Exchange}
 use Rattle.demands.specs.Phase.{Phase}
@@ -33,7 +33,7 @@ use Rattle.demands.specs.Policy.{Weighs, Advances}
 -- on a fit table, ages are below the reach
 pub bounded : {n : ℕ} {t : Slot} {cs : List Cell} → Fit n t cs → n ≤ mostPorts → t .0 ≤ slotEnd → (k : ℕ) → k < length cs → 1 ≤ nth cs k .place
     → age (nth cs k) < reach
-bounded f ports clock k l w = omega (arith, f .each k l .input w, f .each k l .entered w)
+bounded f ports clock k l w = age-below (aged ports (f .each k l) w) (omega (arith, f .each k l .entered w))
 
 -- Inhale -----------------------------------------------------------------------------------------
 
@@ -66,8 +66,7 @@ module _ {n : ℕ} {t : Slot} {arrivals : List ℕ} {cs us : List Cell} (h : Inh
       later i k j hk hj c w =
           let a = was-ready j hj w in
           let e = f .each j hj .entered (a .0) in
-          let m = f .each j hj .input (a .0) in
-          omega (arith, come i k hk c .1, entered≡ (a .1), input≡ (a .1))
+          rw (a .1) (age-later (nth us k) (aged ports (f .each j hj) (a .0)) (omega (arith, come i k hk c .1)))
 
       single : (i j k : ℕ) → j < length cs → k < length cs → So (comes (nth cs) (nth us) i j) → So (comes (nth cs) (nth us) i k) → j ≡ k
       single i j k hj hk a b =
@@ -84,22 +83,22 @@ reading-is cs o l = getD-tabulate (λ o. readyCount cs (outputOf o)) mostPorts 0
 
 module _ {n : ℕ} {t : Slot} {cs : List Cell} {key : Cell → ℕ} {rs : List ℕ} {m : ℕ → Bool} (r : ℕ → ℕ) (ports : n ≤ mostPorts) (clock : t .0 ≤ slotEnd)
     (f : Fit n t cs) (read : (o : Output) → o .0 < mostPorts → readingFor rs o ≡ r (o .0)) (p : Picks cs m) (a : Advances key rs cs m) where
-  -- what stands before a cell by the reading has the lower rank
+  -- what stands before a cell by the reading has the lower standing
   ranked : (d k : ℕ) → d < length cs → k < length cs → nth cs d .place ≡ 1 → nth cs k .place ≡ 1
-      → So (before rs (nth cs d) (nth cs k)) → rank r (nth cs d) < rank r (nth cs k)
+      → So (before rs (nth cs d) (nth cs k)) → standing r (nth cs d) < standing r (nth cs k)
   ranked d k hd hk wd wk h =
       let x = f .each d hd in
       let y = f .each k hk in
       let ld : 1 ≤ nth cs d .place = omega arith in
       let lk : 1 ≤ nth cs k .place = omega arith in
-      before→ rs r (nth cs d) (nth cs k) (omega (arith, x .input ld)) (omega (arith, y .input lk)) (omega (arith, x .entered ld)) (omega (arith, y .entered lk))
+      before→ rs r (nth cs d) (nth cs k) (aged ports x ld) (aged ports y lk) (omega (arith, x .entered ld)) (omega (arith, y .entered lk))
       (read (nth cs d .output) (omega (arith, x .output ld))) (read (nth cs k .output) (omega (arith, y .output lk))) h
 
   waits : (k : ℕ) → k < length cs → So (m k) → nth cs k .place ≡ 1
   waits k l x = waiting→ _ (p .waits k l x)
 
   blocked : (k : ℕ) → k < length cs → nth cs k .place ≡ 1 → No (m k) → (d : ℕ) × (d < length cs) × So (m d)
-      × (((nth cs d .input .0 ≡ nth cs k .input .0) × (rank r (nth cs d) ≤ rank r (nth cs k)))
+      × (((nth cs d .input .0 ≡ nth cs k .input .0) × (standing r (nth cs d) ≤ standing r (nth cs k)))
       ⊎ ((nth cs d .output .0 ≡ nth cs k .output .0) × (key (nth cs d) ≤ key (nth cs k))))
   blocked k l w x =
       let d = a .blocked k l w x in

@@ -8,16 +8,16 @@ use Rattle.rules.specs.declared.Cell.{Cell}
 use Rattle.rules.specs.declared.Switch.{Switch}
 use Rattle.rules.specs.declared.Answer.{Answer}
 use Rattle.rules.specs.declared.Answer.the-variants.{Done}
-use Rattle.rules.specs.Cells.{switch, cellsOf, wordsOf}
+use Rattle.rules.specs.Cells.{atSlot, cellsOf, wordsOf}
 use Rattle.rules.specs.Answers.{Lists, isDone, freshAnswer, slotAnswer}
 use Rattle.rules.specs.Phases.{inhale, readings, phases, matches, exhale, exhaled}
 
 -- "makes t 0"; "an accepted slot raises t by 1, nothing else there changes"
 abbrev pub restarted : Switch → Switch
-restarted w = switch (w .ports) (w .speedup) 0
+restarted w = atSlot w 0
 
 abbrev pub raised : Switch → Switch
-raised w = switch (w .ports) (w .speedup) (suc (w .next .0))
+raised w = atSlot w (suc (w .next .0))
 
 -- Fresh start ----------------------------------------------------------------------------------
 

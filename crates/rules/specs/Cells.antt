@@ -41,6 +41,10 @@ slotOf t = record { 0 = t }
 abbrev pub switch : ℕ → ℕ → ℕ → Switch
 switch n s t = record { ports = n; speedup = s; next = slotOf t }
 
+-- the same numbers at another next slot
+abbrev pub atSlot : Switch → ℕ → Switch
+atSlot w t = record { ports = w .ports; speedup = w .speedup; next = slotOf t }
+
 -- "records: place, input, output, slot of entry, tag"
 abbrev pub cell : ℕ → Input → Output → Slot → ℕ → Cell
 cell p i o s g = record { place = p; input = i; output = o; entered = s; tag = g }

@@ -9,7 +9,7 @@ use lib.ListN.{replicate}
 use Rattle.rules.specs.declared.Cell.{Cell}
 use Rattle.rules.specs.declared.Switch.{Switch}
 use Rattle.rules.specs.Cells.{switch, cell, inputOf, outputOf, slotOf, width, wordsOf, fit}
-use Rattle.rules.specs.Answers.{lists, exhaledWidth, numberOf}
+use Rattle.rules.specs.Answers.{Lists, lists, exhaledWidth, numberOf}
 use Rattle.rules.specs.Calls.{Call, starts, slots, Answered, freshStart, does, run}
 use Rattle.rules.specs.Computing.{Computing}
 
@@ -27,8 +27,11 @@ waiting i o t = cell 1 (inputOf i) (outputOf o) (slotOf t) 0
 abbrev pub ready : ℕ → ℕ → ℕ → Cell
 ready i o t = cell 2 (inputOf i) (outputOf o) (slotOf t) 0
 
+abbrev pub listsOf : ℕ → ℕ → List ℕ → Lists
+listsOf n s arrivals = lists arrivals (zeros (s * n)) (zeros (n * exhaledWidth))
+
 abbrev pub arrivalsOf : ℕ → ℕ → List ℕ → Call
-arrivalsOf n s arrivals = slots (lists arrivals (zeros (s * n)) (zeros (n * exhaledWidth)))
+arrivalsOf n s arrivals = slots (listsOf n s arrivals)
 
 unfoldable pub held : Switch → List ℕ → List ℕ → Answered
 held w table arrivals = does (record { numbers = w; table = table }) (arrivalsOf (w .ports) (w .speedup) arrivals)

@@ -51,11 +51,10 @@ impl Switch {
     pub fn restarted(self) -> Switch
         ensures { λ r. ⌜ r ≡ restarted self ⌝ }
     {
-        Switch {
-            ports: self.ports,
-            speedup: self.speedup,
-            next: Slot(0),
-        }
+        let mut w = self;
+        let next = Slot(0);
+        w.next = next;
+        w
     }
 
     // The numbers after an accepted slot: the next slot raised by 1, nothing else changed.
@@ -63,12 +62,10 @@ impl Switch {
         requires { ⌜ self .next .0 < 4294967295 ⌝ }
         ensures { λ r. ⌜ r ≡ raised self ⌝ }
     {
+        let mut w = self;
         let next = Slot(self.next.0 + 1);
-        Switch {
-            ports: self.ports,
-            speedup: self.speedup,
-            next: next,
-        }
+        w.next = next;
+        w
     }
 }
 

@@ -139,16 +139,18 @@ unfolding written each
 none-comes at ws f fs e = broken-comes at ws fs (f ∷ fs) (rw e)
 
 words-come : (at : ℕ) (ws f : List ℕ) (fs : List (List ℕ)) (a b : ℕ) → fieldArrival f ≡ Words a b
-    → Comes (at + arrivalWidth) (sets ws at (a ∷ b ∷ [])) fs (fold takeField (lineState (at + arrivalWidth) Start (sets ws at (a ∷ b ∷ []))) fs)
+    → let vs : List ℕ = sets ws at (fieldWords (Words a b)) in
+    Comes (at + arrivalWidth) vs fs (fold takeField (lineState (at + arrivalWidth) Start vs) fs)
     → Comes at ws (f ∷ fs) (fold takeField (written (Words a b) at ws) fs)
 unfolding written each flatMap
 words-come at ws f fs a b e x = go (leb (at + arrivalWidth) (length ws)) refl
   where
-    size : length (sets ws at (a ∷ b ∷ [])) ≡ length ws
-    size = length-sets ws at (a ∷ b ∷ [])
+    size : length (sets ws at (fieldWords (Words a b))) ≡ length ws
+    size = length-sets ws at (fieldWords (Words a b))
 
     go : (t : Bool) → leb (at + arrivalWidth) (length ws) ≡ t
-        → Comes at ws (f ∷ fs) (fold takeField (cond t (lineState (at + arrivalWidth) Start (sets ws at (a ∷ b ∷ []))) (lineState at NoField ws)) fs)
+        → Comes at ws (f ∷ fs)
+        (fold takeField (cond t (lineState (at + arrivalWidth) Start (sets ws at (fieldWords (Words a b)))) (lineState at NoField ws)) fs)
     go true i =
         let h : at + arrivalWidth ≤ length ws = leb-true (at + arrivalWidth) (length ws) i in
         let m : at + arrivalWidth + length fs * arrivalWidth ≡ at + suc (length fs) * arrivalWidth = omega arith in
@@ -157,7 +159,8 @@ words-come at ws f fs a b e x = go (leb (at + arrivalWidth) (length ws)) refl
           size = x .size ∙ size;
           words = λ k.
               rw e
-              (x .words k ∙ ap (λ (l : List ℕ). l ++ meant fs) (take-sets ws at (a ∷ b ∷ []) h) ∙ append-assoc (take at ws) (a ∷ b ∷ []) (meant fs));
+              (x .words k ∙ ap (λ (l : List ℕ). l ++ meant fs) (take-sets ws at (fieldWords (Words a b)) h)
+              ∙ append-assoc (take at ws) (fieldWords (Words a b)) (meant fs));
         }
     go false i =
         let h : length ws < at + arrivalWidth = leb-false (at + arrivalWidth) (length ws) i in
@@ -175,11 +178,11 @@ comes at ws [] = record {
   size = refl;
   words = λ h. sym (append-nil (take at ws) ∙ take-all at ws (omega (arith, eqb-true at (length ws) h)));
 }
-comes at ws (f ∷ fs) = rw (take-field at ws f) (taken (fieldArrival f) refl (λ a b. comes (at + arrivalWidth) (sets ws at (a ∷ b ∷ [])) fs))
+comes at ws (f ∷ fs) = rw (take-field at ws f) (taken (fieldArrival f) refl (λ a b. comes (at + arrivalWidth) (sets ws at (fieldWords (Words a b))) fs))
   where
     taken : (r : Arrival) → fieldArrival f ≡ r
-        → ((a b : ℕ) → Comes (at + arrivalWidth) (sets ws at (a ∷ b ∷ [])) fs
-        (fold takeField (lineState (at + arrivalWidth) Start (sets ws at (a ∷ b ∷ []))) fs))
+        → ((a b : ℕ) → Comes (at + arrivalWidth) (sets ws at (fieldWords (Words a b))) fs
+        (fold takeField (lineState (at + arrivalWidth) Start (sets ws at (fieldWords (Words a b)))) fs))
         → Comes at ws (f ∷ fs) (fold takeField (written r at ws) fs)
     taken (Words a b) e rec = words-come at ws f fs a b e (rec a b)
     taken NoArrival e rec = none-comes at ws f fs e

@@ -1,7 +1,7 @@
 -- What the field says is what its end answers; the tests are those of `written`.
 -- Assumes nothing.
 use mathlib.Core.Path.{_≡_, sym, _∙_}
-use native.Mathlib.Numerals.{add-one}
+use native.Mathlib.Numerals.{towards-suc}
 use Rattle.rules.specs.Answers.{arrivalWidth}
 use Rattle.text.specs.declared.Arrival.the-variants.{Words}
 use native.Mathlib.Omega.{arith}
@@ -72,7 +72,7 @@ returns-4 : tie.Need-returns-4
 unfolding endField written
 returns-4 c =
     let k = c .before .before in
-    simp (says k, le-leb (end k) (size k) (omega arith), add-one)
+    simp (says k, le-leb (end k) (size k) (omega arith)) (simp towards-suc)
 
 pub end-field-spec : {M : Type 1} → statement M
 end-field-spec =
