@@ -1,4 +1,6 @@
 // The buffers' two ends: the inhale, by which cells come into the input units, and the exhale, by which they leave the output units.
+#![tactic(auto)]
+
 ghost use Rattle.std.specs.Prelude.{◌≡◌, ◌+◌, ◌*◌, ◌≤◌, length};
 ghost use Rattle.std.proofs.lemmas.List.Edits.{sets};
 ghost use Rattle.rules.specs.Cells.{cells_of};

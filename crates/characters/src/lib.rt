@@ -1,4 +1,6 @@
 // The bytes that lines are made of; `space` and the others of specs/Characters.antt are the same for contracts.
+#![tactic(auto)]
+
 pub const SPACE: u8 = 32;
 
 pub const NEWLINE: u8 = 10;

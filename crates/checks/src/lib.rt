@@ -1,5 +1,7 @@
 // Which number a call gives, worked out before anything is written. The rows of the table of numbers stand in groups, each with a function of its own,
 // in the order of the table: sizes, table, lists, arrivals, clock, room. A group may rely on those above it, which were passed.
+#![tactic(auto)]
+
 ghost use Rattle.std.specs.Prelude.{◌≡◌, [], ◌∷◌, ◌*◌, ◌≤◌, length, ltb};
 ghost use Rattle.laws.specs.Count.{any};
 ghost use Rattle.rules.specs.Cells.{most_ports, most_speedup};

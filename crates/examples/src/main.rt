@@ -1,4 +1,6 @@
 // The examples from the bench that document 01 does not mark (P), through the public calls: a line for each call, with what came back.
+#![tactic(auto)]
+
 use rules::{Slot, Switch};
 use switch::{Crossbar, Outcome};
 

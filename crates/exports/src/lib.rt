@@ -1,5 +1,7 @@
 // What another language calls: a fresh start and a slot on lent words. The switch's numbers N, S and t are three words of their own list.
 // Each contract is one equation with `specs/Exports.antt`, which settles the number given back and every word of every list.
+#![tactic(auto)]
+
 ghost use Rattle.std.specs.Prelude.{◌≡◌, length};
 ghost use Rattle.rules.specs.Answers.{lists};
 ghost use Rattle.exports.specs.Exports.{number_width, switch_of, numbers_of, start_of_words, slot_of_words};

@@ -4,6 +4,8 @@
 //   new, all records below are looked at;
 // - the walk, stretch by stretch: blocks of free records are passed over, what stands behind the places of other free records is gathered in one
 //   word, and the live records are listed, so that only they are looked at one by one.
+#![tactic(auto)]
+
 ghost use Rattle.std.specs.Prelude.{◌≡◌, not, ℕ, ◌+◌, ◌-◌, ◌*◌, ◌/◌, ◌<◌, ◌≤◌, eqb, length};
 ghost use Rattle.laws.specs.Bits.{or_to};
 ghost use Rattle.laws.specs.Sifted.{Sifted};

@@ -45,10 +45,10 @@ free_sound n t = sound_blank n t free refl refl
 module _ (n : ℕ) (t : Slot) (c : Cell) where
   pub sound→ : So (is_sound n t c) → Sound n t c
   unfolding is_sound
-  sound→ h = ⊎_elim (λ x. is_free x (cond_true (is_free c) _ _ x)) (λ x. is_live x (cond_false (is_free c) _ _ x)) (passes (is_free c))
+  sound→ h = ⊎_elim (λ x. freed x (cond_true (is_free c) _ _ x)) (λ x. is_live x (cond_false (is_free c) _ _ x)) (passes (is_free c))
     where
-      is_free : So (is_free c) → is_sound n t c ≡ is_blank c → Sound n t c
-      is_free x e = sound_blank n t c (free→ c x) (blank-free c (free→ c x) (sym e ∙ h))
+      freed : So (is_free c) → is_sound n t c ≡ is_blank c → Sound n t c
+      freed x e = sound_blank n t c (free→ c x) (blank-free c (free→ c x) (sym e ∙ h))
 
       is_live : No (is_free c) → is_sound n t c ≡ (leb c.place 2 && ltb c.input.0 n && ltb c.output.0 n && ltb c.entered.0 t.0) → Sound n t c
       is_live x e =

@@ -1,1 +1,2 @@
 // Theorems about the rules; there is no code here.
+#![tactic(auto)]

@@ -1,4 +1,6 @@
 // What a search answers: the number of a record, or that there is none. The laws of searches stand in specs/.
+#![tactic(auto)]
+
 #[derive(Drop)]
 pub enum Found {
     At(usize),

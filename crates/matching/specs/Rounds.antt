@@ -474,11 +474,11 @@ module _ {n : ℕ} {r ws us qs : List ℕ} {q : Taken} {ns : List ℕ} {lows i :
       inside : k < length (cells_of ws)
       inside = (open_found r (cells_of ws) (picks r (cells_of ws) i) k opened).0
 
-      is_open : So (is_open (cells_of ws) (picks r (cells_of ws) i) k)
-      is_open = (open_found r (cells_of ws) (picks r (cells_of ws) i) k opened).1
+      opens : So (is_open (cells_of ws) (picks r (cells_of ws) i) k)
+      opens = (open_found r (cells_of ws) (picks r (cells_of ws) i) k opened).1
 
       waits : (nth (cells_of ws) k).place ≡ 1
-      waits = open_waits (cells_of ws) (picks r (cells_of ws) i) k is_open
+      waits = open_waits (cells_of ws) (picks r (cells_of ws) i) k opens
 
       pub rounds_take : Takeable us qs k
       rounds_take =

@@ -1,4 +1,6 @@
 // A transfer phase: rounds of picking by the queues' heads, and the match words; and S phases by one reading.
+#![tactic(auto)]
+
 ghost use Rattle.std.specs.Prelude.{◌≡◌, ◌*◌, ◌<◌, length};
 ghost use Rattle.ports.specs.Ports.{has};
 ghost use Rattle.queues.specs.Queues.{All, Queues};

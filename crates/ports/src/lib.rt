@@ -1,4 +1,6 @@
 // Sets of ports as 16-bit masks: "the taken inputs and the taken outputs are two sets of ports". Port q is in the set when binary digit q is 1.
+#![tactic(auto)]
+
 ghost use Rattle.std.specs.Prelude.{◌≡◌, true, ◌<◌};
 ghost use Rattle.laws.specs.Count.{count};
 ghost use Rattle.laws.specs.Least.{lowest as lowest_of};

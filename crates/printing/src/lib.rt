@@ -1,4 +1,6 @@
 // Printed lines, put into a buffer that the caller lends, one behind the other. Each function returns where its text ends.
+#![tactic(auto)]
+
 ghost use Rattle.std.specs.Prelude.{◌+◌, ◌*◌, ◌<◌, ◌≤◌, ◌≡◌, [], ◌∷◌, ◌++◌, length};
 ghost use Rattle.characters.specs.Characters.{newline, digit_byte};
 ghost use Rattle.printing.specs.Printed.{decimal, field, byte_after, numbers_line, header_line, cell_line};

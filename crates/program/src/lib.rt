@@ -1,5 +1,7 @@
 // The program of document 01 without its reading and writing: a state by value that takes the pieces that the input comes in, and puts what
 // is to be printed into a lent buffer. Every number printed, refusals too, is an answer of the switch's public calls.
+#![tactic(auto)]
+
 ghost use Rattle.std.specs.Prelude.{◌+◌, ◌*◌, ◌≤◌, ◌<◌, ◌≡◌, length};
 ghost use Rattle.rules.specs.Cells.{most_ports};
 ghost use Rattle.rules.specs.Answers.{exhaled_width};

@@ -3,6 +3,8 @@
 // One list of words has it all: for each pair its head; for each pair the top of its chain, its highest record; for each record the next lower one of
 // its chain; for each output the set of inputs that have a cell for it; and last a set that has every output with such an input.
 // A record is named by its number + 1, and 0 names none.
+#![tactic(auto)]
+
 ghost use Rattle.std.specs.Prelude.{◌≡◌, ◌<◌, length, replicate};
 ghost use Rattle.laws.specs.Least.{Below};
 ghost use Rattle.laws.specs.First.{first_found};

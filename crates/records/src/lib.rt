@@ -1,5 +1,7 @@
 // "The cell table is a lent list of records": the oldest-ready and lowest-free scans over a lent slice of cell records. Each is thin: it
 // lays the records out as words and hands these to the scan of `table`. A caller that holds a table by value takes `.._of`.
+#![tactic(auto)]
+
 ghost use Rattle.std.specs.Prelude.{◌≡◌, ◌*◌, ◌≤◌, ◌%◌, get_or, take};
 ghost use Rattle.rules.specs.Cells.{most_records, width, fields, cells_of};
 ghost use Rattle.rules.specs.Phases.{lowest_free, oldest_ready};

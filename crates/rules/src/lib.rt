@@ -1,4 +1,6 @@
 // The kinds of number of the report, a cell, the switch's numbers and what a call answers. The rules themselves stand in specs/.
+#![tactic(auto)]
+
 ghost use Rattle.std.specs.Prelude.{◌≡◌, ◌<◌};
 ghost use Rattle.rules.specs.Answers.{number_of, is_done};
 ghost use Rattle.rules.specs.Calls.{restarted, raised};
@@ -23,17 +25,17 @@ pub const EXHALED_WORDS: usize = 4;
 pub const PORT_COUNT: usize = MOST_PORTS as usize;
 
 // "An input number is never compared with an output number; slot numbers are a third kind": three types.
-#[derive(Drop)]
+#[derive(Clone, Copy)]
 pub struct Input(pub u32);
 
-#[derive(Drop)]
+#[derive(Clone, Copy)]
 pub struct Output(pub u32);
 
-#[derive(Drop)]
+#[derive(Clone, Copy)]
 pub struct Slot(pub u32);
 
 // A record of the cell table. Place 0 is free, 1 waiting (input unit), 2 ready (output unit).
-#[derive(Drop)]
+#[derive(Clone, Copy)]
 pub struct Cell {
     pub place: u32,
     pub input: Input,
@@ -43,7 +45,7 @@ pub struct Cell {
 }
 
 // The switch's numbers N, S and t.
-#[derive(Drop)]
+#[derive(Clone, Copy)]
 pub struct Switch {
     pub ports: u32,
     pub speedup: u32,
@@ -74,7 +76,7 @@ impl Switch {
 }
 
 // What a call answers; `number_of` of specs/Answers.antt gives the paper's number for each.
-#[derive(Drop)]
+#[derive(Clone, Copy)]
 pub enum Answer {
     Done,
     BadPorts,
@@ -105,6 +107,7 @@ impl Answer {
         }
     }
 
+    #[tactic(auto, unfolding(crate::specs::Answers::is_done))]
     pub fn is_done(self) -> bool
         ensures { result ≡ is_done self }
     {

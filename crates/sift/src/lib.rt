@@ -2,6 +2,8 @@
 // costs more than a look at eight records. So each number is written behind the last one that stays, and stays or is written over by the next.
 // A stretch of the table is looked at in two steps: which of its blocks have such a record at all, then which records of those blocks.
 // Places are told by their bits; whoever asked looks at the records listed again.
+#![tactic(auto)]
+
 ghost use Rattle.std.specs.Prelude.{◌≡◌, not, ℕ, ◌+◌, ◌-◌, ◌*◌, ◌/◌, ◌<◌, ◌≤◌, min, eqb, length};
 ghost use Rattle.laws.specs.Count.{bit};
 ghost use Rattle.laws.specs.Sifted.{Sifted, Chosen};

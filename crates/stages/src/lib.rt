@@ -1,5 +1,7 @@
 // The stages of an accepted slot as calls of their own, in the order of `switch`: what the benchmark times one by one. They are not for a caller of
 // the switch, since each asks for what the stages before it have seen to, and nothing checks that of a caller in another language.
+#![tactic(auto)]
+
 ghost use Rattle.std.specs.Prelude.{◌≡◌, ◌*◌, ◌<◌, ◌≤◌, length, get_or};
 ghost use Rattle.rules.specs.Answers.{arrival_width, exhaled_width, live};
 ghost use Rattle.rules.specs.Cells.{most_ports, most_records, slot_of, records, cells_of, fit};

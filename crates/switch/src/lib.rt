@@ -1,4 +1,6 @@
 // The switch: a fresh start and a slot. Its numbers go in whole and come back whole; the table and the lists are lent.
+#![tactic(auto)]
+
 ghost use Rattle.std.specs.Prelude.{◌≡◌};
 ghost use Rattle.rules.specs.Cells.{cells_of};
 ghost use Rattle.rules.specs.Answers.{lists, live};

@@ -1,6 +1,8 @@
 // The cell table as it is lent, in flat words: what stands in a record, how it is changed, and what the scans find.
 // Only `record_count`, `is_whole`, `clear`, `cell_at`, `put_cell` and `set_place` know of words. The reading and the scan of the exhale look at no
 // record but the ready ones, which `sift` lists.
+#![tactic(auto)]
+
 ghost use Rattle.std.specs.Prelude.{◌≡◌, ◌%◌, ◌<◌, ◌≤◌, length, get_or, replicate};
 ghost use Rattle.laws.specs.Least.{Below};
 ghost use Rattle.laws.specs.Count.{bit};

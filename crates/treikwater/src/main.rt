@@ -1,5 +1,7 @@
 // The program of document 01: it runs the arrivals of standard input and prints the emitted cells to standard output.
 // What is printed for which input is settled in `program`. Here the bytes come in and go out, in large pieces.
+#![tactic(auto)]
+
 ghost use Rattle.program.specs.Lent.{Inside, Room, Lent, PieceLent};
 
 use libc::{STDIN_FILENO, STDOUT_FILENO};

@@ -1,0 +1,14 @@
+pub mod Cells
+pub mod Fit
+pub mod Match
+pub mod Phases
+pub mod InPorts
+pub mod Inhale
+pub mod Exhale
+pub mod Meets
+pub mod Exhaled
+pub mod Only
+pub mod Refusals
+pub mod Calls
+pub mod Runs
+pub mod Totals
