@@ -23,7 +23,7 @@ use rules::{Cell, Slot};
 const MARK_ROWS: u32 = 1_024;
 
 // What a record is held against by itself.
-#[derive(Drop)]
+#[derive(Clone, Copy)]
 struct Bounds {
     ports: u32,
     next: Slot,
@@ -199,7 +199,7 @@ fn strays_within(table: &[u32], k: usize, size: usize, blocks: &[u8], count: usi
 }
 
 // What a first look at a stretch tells: how many live records it lists, and what stands behind the places of the free ones.
-#[derive(Drop)]
+#[derive(Clone, Copy)]
 struct Survey {
     live: usize,
     strays: u32,

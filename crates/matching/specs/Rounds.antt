@@ -500,7 +500,7 @@ module _ {n : ℕ} {r ws us qs : List ℕ} {q : Taken} {ns : List ℕ} {lows i :
             rounds = omega arith;
             shows =
                 rw (picks_more r (cells_of ws) i, opened)
-                (shows-add a.shows k inside is_open t (omega (arith, o.small, o.inside.outputs k inside waits)));
+                (shows-add a.shows k inside opens t (omega (arith, o.small, o.inside.outputs k inside waits)));
             queues = t.queues;
             kept = kept_take t (omega (arith, inside, length-shown a.shows)) h;
           }

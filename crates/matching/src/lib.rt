@@ -20,7 +20,7 @@ use rules::{Input, Output, PORT_COUNT};
 use table::Reading;
 
 // The taken inputs and the taken outputs are two sets of ports.
-#[derive(Drop)]
+#[derive(Clone, Copy)]
 struct Taken {
     inputs: u16,
     outputs: u16,
@@ -88,7 +88,7 @@ fn first_among(table: &[u32], queues: &[u16], inputs: u16, outputs: u16) -> Foun
 }
 
 // What a round finds, and the outputs that it looked at, for the next round.
-#[derive(Drop)]
+#[derive(Clone, Copy)]
 struct Candidate {
     found: Found,
     lows: u16,

@@ -59,7 +59,7 @@ pub fn lowest(mask: u16) -> u32
 }
 
 // A set of ports that have the same reading.
-#[derive(Drop)]
+#[derive(Clone, Copy)]
 pub struct Tied {
     pub mask: u16,
     pub reading: u32,

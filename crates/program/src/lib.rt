@@ -40,14 +40,14 @@ const MATCH_WORDS: usize = MOST_SPEEDUP as usize * PORT_COUNT;
 const EMITTED_WORDS: usize = PORT_COUNT * EXHALED_WORDS;
 
 // A switch after its accepted fresh start, and how many words of the table are its own.
-#[derive(Drop)]
+#[derive(Clone, Copy)]
 pub struct Running {
     crossbar: Crossbar,
     words: usize,
 }
 
 // How far the input was read: into the first line, between two lines, into a slot line, or to the end of the reading.
-#[derive(Drop)]
+#[derive(Clone, Copy)]
 pub enum Program {
     First(FirstReader),
     Between(Running),
@@ -56,14 +56,14 @@ pub enum Program {
 }
 
 // The state to go on with, and where the printed text ends.
-#[derive(Drop)]
+#[derive(Clone, Copy)]
 pub struct Turn {
     pub program: Program,
     pub at: usize,
 }
 
 // The same, and how many bytes of a piece of the input were taken.
-#[derive(Drop)]
+#[derive(Clone, Copy)]
 pub struct Pass {
     pub turn: Turn,
     pub next: usize,

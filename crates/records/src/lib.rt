@@ -14,7 +14,7 @@ use rules::{Cell, Output};
 const MOST_WORDS: usize = rules::MOST_RECORDS * rules::RECORD_WORDS;
 
 // What a scan over records answers: what it found, or that the list has more records than a table may.
-#[derive(Drop)]
+#[derive(Clone, Copy)]
 pub enum Finding {
     At(usize),
     Nothing,

@@ -11,13 +11,13 @@ ghost use Rattle.switch.specs.Calls.{SlotRan};
 use rules::{Answer, Switch};
 
 // The switch as its owner holds it.
-#[derive(Drop)]
+#[derive(Clone, Copy)]
 pub struct Crossbar {
     pub numbers: Switch,
 }
 
 // What a call answers, and the switch to go on with.
-#[derive(Drop)]
+#[derive(Clone, Copy)]
 pub struct Outcome {
     pub answer: Answer,
     pub crossbar: Crossbar,

@@ -234,7 +234,7 @@ pub fn live(table: &[u32]) -> usize
 }
 
 // "The counts are read once, kept together for the slot": how many ready cells each output has.
-#[derive(Drop)]
+#[derive(Clone, Copy)]
 pub struct Reading {
     pub counts: [u32; rules::PORT_COUNT],
 }

@@ -20,7 +20,7 @@ const LARGEST: u64 = 4_294_967_295;
 const LARGEST_OUTPUT: u32 = 4_294_967_294;
 
 // A number as far as it was read.
-#[derive(Drop)]
+#[derive(Clone, Copy)]
 pub enum Number {
     Empty,
     Value(u32),
@@ -28,7 +28,7 @@ pub enum Number {
 }
 
 // A field of a slot line as far as it was read. A tag comes with its output's word.
-#[derive(Drop)]
+#[derive(Clone, Copy)]
 pub enum Field {
     Start,
     Dash,
@@ -38,21 +38,21 @@ pub enum Field {
 }
 
 // What a whole field says: the two words of an input.
-#[derive(Drop)]
+#[derive(Clone, Copy)]
 pub enum Arrival {
     Words(u32, u32),
     NoArrival,
 }
 
 // What a first line says: N, S and the table length.
-#[derive(Drop)]
+#[derive(Clone, Copy)]
 pub enum FirstLine {
     Numbers(u32, u32, u32),
     Unreadable,
 }
 
 // A first line as far as it was read: how many of its fields ended, up to 3, and its last three fields.
-#[derive(Drop)]
+#[derive(Clone, Copy)]
 pub struct FirstReader {
     ended: u8,
     ports: Number,
@@ -61,33 +61,33 @@ pub struct FirstReader {
 }
 
 // A slot line as far as it was read: where the words of its next field go, and that field. A line that cannot be read any more stays so.
-#[derive(Drop)]
+#[derive(Clone, Copy)]
 pub struct SlotReader {
     at: usize,
     field: Field,
 }
 
 // A slot line as far as a piece has it, and the first byte that was not taken: the line's newline, or the piece's end.
-#[derive(Drop)]
+#[derive(Clone, Copy)]
 pub struct Part {
     pub reader: SlotReader,
     pub next: usize,
 }
 
 // The same of a field, of a number, and of its digits.
-#[derive(Drop)]
+#[derive(Clone, Copy)]
 struct FieldPart {
     field: Field,
     next: usize,
 }
 
-#[derive(Drop)]
+#[derive(Clone, Copy)]
 struct NumberPart {
     number: Number,
     next: usize,
 }
 
-#[derive(Drop)]
+#[derive(Clone, Copy)]
 struct Digits {
     value: u32,
     next: usize,
