@@ -31,6 +31,7 @@ fn told(found: Found) -> Finding
 }
 
 // The word of record c that stands at word j of a table: one of a table of this record alone.
+#[tactic(auto, using(crate::specs::Layout::alone), unfolding(rules::specs::Cells::records))]
 fn word_of(c: Cell, j: usize) -> u32
     ensures { result ≡ get_or (fields c) (j % width) 0 }
 {
@@ -40,6 +41,7 @@ fn word_of(c: Cell, j: usize) -> u32
 }
 
 // The words of n records; none of too many.
+#[tactic(auto, unfolding(crate::specs::Records::words_to_lay))]
 fn words_to_lay(n: usize) -> usize
     ensures { result ≡ words_to_lay n }
 {
@@ -50,6 +52,7 @@ fn words_to_lay(n: usize) -> usize
 }
 
 // The records, laid out as words.
+#[tactic(auto, using(crate::specs::Layout::within_records, crate::specs::Layout::within_room))]
 fn lay_out(cells: &[Cell]) -> [u32; MOST_WORDS]
     ensures { Laid cells.now result }
 {
@@ -72,6 +75,7 @@ fn lay_out_first(table: [Cell; rules::MOST_RECORDS], n: usize) -> [u32; MOST_WOR
 }
 
 // The scans of the first n records of words laid out.
+#[tactic(auto, unfolding(crate::specs::Records::answered))]
 fn lowest_free_in(words: [u32; MOST_WORDS], n: usize) -> Finding
     ensures { result ≡ answered n (lowest_free (cells_of (take (n * width) words))) }
 {
@@ -81,6 +85,7 @@ fn lowest_free_in(words: [u32; MOST_WORDS], n: usize) -> Finding
     told(table::lowest_free(&words[..n * rules::RECORD_WORDS]))
 }
 
+#[tactic(auto, unfolding(crate::specs::Records::answered))]
 fn oldest_ready_in(words: [u32; MOST_WORDS], n: usize, o: Output) -> Finding
     ensures { result ≡ answered n (oldest_ready (cells_of (take (n * width) words)) o) }
 {
@@ -91,6 +96,7 @@ fn oldest_ready_in(words: [u32; MOST_WORDS], n: usize, o: Output) -> Finding
 }
 
 // The lowest-numbered free record.
+#[tactic(auto, using(crate::specs::Layout::scanned), unfolding(crate::specs::Records::lowest_free_of))]
 pub fn lowest_free(cells: &[Cell]) -> Finding
     ensures { result ≡ lowest_free_of cells.now }
 {

@@ -1,1 +1,1 @@
-# [ derive ( Drop ) ] pub enum Found { At ( usize ) , Nothing , }
+# [ derive ( Clone , Copy ) ] pub enum Found { At ( usize ) , Nothing , }

@@ -1,4 +1,0 @@
-pub mod Arrays
-pub mod Calls
-pub mod Laying
-pub mod Rows
