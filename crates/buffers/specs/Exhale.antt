@@ -8,7 +8,8 @@ use Rattle.std.proofs.Math.Bool.{So, true, false}
 use Rattle.std.proofs.lemmas.Bool.{false≢true}
 use Rattle.std.proofs.lemmas.List.Edits.{sets}
 use Rattle.laws.specs.Tests.{both, join, either, on_left, on_right, passes, same_test}
-use Rattle.laws.specs.Least.{is_at, is_at→, least_at, least_alike}
+use Rattle.laws.specs.Least.{is_at, is_at→}
+use Rattle.laws.proofs.Least.{least_at, least_alike}
 use Rattle.laws.specs.Lists.{tabulate-same, tabulate-get_or, blocks_zero, blocks_next}
 use Rattle.laws.specs.declared.Found.{Found}
 use Rattle.laws.specs.declared.Found.TheVariants.{At, Nothing}
@@ -17,7 +18,8 @@ use Rattle.rules.specs.declared.Output.{Output}
 use Rattle.rules.specs.Cells.{output_of, free, nth, records, cells_of, is_ready, is_ready_for, older}
 use Rattle.rules.specs.Answers.{exhaled_width}
 use Rattle.rules.specs.Phases.{store_at, oldest_ready, is_emitted, exhale, emitted_words, exhaled}
-use Rattle.words.specs.Words.{length-cells_of, with_records, with_own, with_long, with_cells, with_then}
+use Rattle.words.specs.Words.{length-cells_of, with_records}
+use Rattle.words.proofs.Words.{with_own, with_long, with_cells, with_then}
 use Rattle.ideal.specs.Cells.{ready_for→}
 use Rattle.ideal.specs.Exhale.{length-exhale, nth-exhale}
 use Rattle.ideal.specs.Exhaled.{length-emitted}

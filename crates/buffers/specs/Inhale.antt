@@ -8,7 +8,8 @@ use Rattle.std.proofs.Math.Numerals.{add-one}
 use Rattle.std.proofs.Math.ListN.{length}
 use Rattle.laws.specs.Tests.{No, passes, refuted, to_no}
 use Rattle.laws.specs.Walk.{over_zero, over_more, over_ind, below_suc}
-use Rattle.laws.specs.Least.{Least, lowest_is}
+use Rattle.laws.specs.Least.{Least}
+use Rattle.laws.proofs.Least.{lowest_is}
 use Rattle.laws.specs.declared.Found.TheVariants.{At, Nothing}
 use Rattle.rules.specs.declared.Cell.{Cell}
 use Rattle.rules.specs.declared.Input.{Input}
@@ -16,7 +17,8 @@ use Rattle.rules.specs.declared.Slot.{Slot}
 use Rattle.rules.specs.Cells.{input_of, free, nth, is_free, records, cells_of}
 use Rattle.rules.specs.Answers.{first_word, arrives}
 use Rattle.rules.specs.Phases.{lowest_free, arrival, enter, inhale}
-use Rattle.words.specs.Words.{length-cells_of, with_records, with_own, with_long, with_cells, with_then}
+use Rattle.words.specs.Words.{length-cells_of, with_records}
+use Rattle.words.proofs.Words.{with_own, with_long, with_cells, with_then}
 use Rattle.table.specs.Table.{stored, records-stored, cells_of-stored, NoneBelow, none_below_zero}
 use Rattle.buffers.specs.Stores.{length-store_at}
 

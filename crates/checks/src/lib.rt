@@ -14,6 +14,7 @@ use rules::{
 };
 
 // The answer of a fresh start: its sizes are all that is checked.
+#[tactic(auto, unfolding(rules::specs::Answers::fresh_answer))]
 pub fn check_start(w: Switch, table: &[u32]) -> Answer
     ensures { result ≡ fresh_answer w table.now }
 {
@@ -54,6 +55,7 @@ pub fn check_slot(
 }
 
 // Rows 1 to 3.
+#[tactic(auto, unfolding(rules::specs::Answers::first_of, crate::specs::Checks::size_unfit))]
 fn check_sizes(w: Switch, table: &[u32]) -> Answer
     ensures { result ≡ first_of (size_checks w table.now) }
 {
@@ -113,12 +115,14 @@ fn check_room(w: Switch, table: &[u32], arrivals: &[u32]) -> Answer
 }
 
 // A row by itself: its answer where it holds, and otherwise done.
+#[tactic(auto, unfolding(rules::specs::Answers::first_of))]
 fn answer_if(holds: bool, refusal: Answer) -> Answer
     ensures { result ≡ first_of (row holds refusal ∷ []) }
 {
     if holds { refusal } else { Answer::Done }
 }
 
+#[tactic(auto, unfolding(rules::specs::Answers::outside))]
 fn is_outside(x: u32, most: u32) -> bool
     ensures { result ≡ outside x most }
 {
@@ -129,6 +133,7 @@ fn is_outside(x: u32, most: u32) -> bool
 }
 
 // No whole records, none, or too many.
+#[tactic(auto, unfolding(crate::specs::Checks::size_unfit, rules::specs::Answers::outside))]
 fn is_size_unfit(table: &[u32]) -> bool
     ensures { result ≡ size_unfit table.now }
 {
@@ -143,6 +148,7 @@ fn is_size_unfit(table: &[u32]) -> bool
 }
 
 // The three lists have the lengths that go with the numbers.
+#[tactic(auto, unfolding(rules::specs::Answers::lengths_fit))]
 fn do_lengths_fit(w: Switch, arrivals: &[u32], matches: &[u32], exhaled: &[u32]) -> bool
     requires { (w.ports ≤ most_ports) × (w.speedup ≤ most_speedup) }
     ensures { result ≡ lengths_fit w (lists arrivals.now matches.now exhaled.now) }
@@ -175,6 +181,7 @@ fn has_unknown(arrivals: &[u32], ports: u32) -> bool
 }
 
 // How many cells arrive.
+#[tactic(auto, unfolding(rules::specs::Answers::arriving))]
 fn count_arriving(arrivals: &[u32], ports: u32) -> usize
     requires { ports * arrival_width ≤ length arrivals.now }
     ensures { result ≡ arriving ports arrivals.now }

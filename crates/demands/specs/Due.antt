@@ -1,7 +1,7 @@
 -- When a cell leaves. A cell is due in slot s while, before slot t, it is held with s - t others before it; after slot s it is gone. An inhale
 -- and a phase keep that, and an exhale shows the cell exactly when it is due.
 -- Assumes nothing.
-use Rattle.std.specs.Prelude.{◌≡◌, refl, ◌⊎◌, List, ℕ, zero, suc, ◌+◌, ◌≤◌, ◌<◌, length}
+use Rattle.std.specs.Prelude.{◌≡◌, ◌⊎◌, List, ℕ, suc, ◌+◌, ◌≤◌, ◌<◌, length}
 use Rattle.std.proofs.Common.{sym, subst, ap, ◌∙◌, inl, inr, ⊎_elim, arith, eq-zero-or-pos}
 use Rattle.std.proofs.Math.Bool.{So}
 use borrow.Author.Tests.{eqb-true}
@@ -9,7 +9,7 @@ use Rattle.laws.specs.Tests.{No, refuted}
 use Rattle.rules.specs.declared.Switch.{Switch}
 use Rattle.rules.specs.declared.Slot.{Slot}
 use Rattle.rules.specs.declared.Cell.{Cell}
-use Rattle.rules.specs.Cells.{most_ports, nth, same_input, same_slot}
+use Rattle.rules.specs.Cells.{nth, same_input, same_slot}
 use Rattle.rules.specs.Phases.{is_emitted, exhale, exhaled}
 use Rattle.rules.specs.Model.{same}
 use Rattle.rules.specs.Demands.{elders, emits, emitted, Leaves}
@@ -17,10 +17,9 @@ use Rattle.ideal.specs.Cells.{entered≡, input≡, →same}
 use Rattle.ideal.specs.Fit.{Fit, Stays, stays_refl, stays_on}
 use Rattle.ideal.specs.Inhale.{Inhaled, inhaled_was}
 use Rattle.ideal.specs.Exhale.{emitted→, length-exhale, exhale_kept, exhale-left}
-use Rattle.ideal.specs.Exhaled.{shown, shown→}
-use Rattle.demands.specs.Ages.{age}
-use Rattle.demands.specs.Led.{Led}
-use Rattle.demands.specs.Elders.{Holds, elders_hold, no_elders, leaves_now, stays_behind, one_fewer}
+use Rattle.ideal.specs.Exhaled.{shown→}
+use Rattle.ideal.proofs.Exhaled.{shown}
+use Rattle.demands.specs.Elders.{Holds, elders_hold}
 
 -- no live record has c's slot and input
 abbrev pub Gone : Cell → List Cell → Type 0
@@ -67,7 +66,7 @@ inhale_holds {cs = cs} h f =
 -- At an exhale -----------------------------------------------------------------------------------
 
 -- what a slot shows of c, and how c is due after it
-abbrev Departs : Switch → List Cell → Cell → ℕ → Type 0
+abbrev pub Departs : Switch → List Cell → Cell → ℕ → Type 0
 Departs w cs c s = Leaves c s w (exhaled w.ports cs) × Due c s (suc w.next.0) (exhale w.ports cs)
 
 module _ (w : Switch) {t : Slot} {cs : List Cell} (f : Fit w.ports t cs) (c : Cell) where
@@ -110,7 +109,7 @@ module _ (w : Switch) {t : Slot} {cs : List Cell} (f : Fit w.ports t cs) (c : Ce
       (m, k.0, rw k.1 at v, rw k.1 at e, rw k.1 at i)
 
   -- what is gone stays gone, and is not shown
-  gone-exhale : (s : ℕ) → s < w.next.0 → Gone c cs → Departs w cs c s
+  pub gone-exhale : (s : ℕ) → s < w.next.0 → Gone c cs → Departs w cs c s
   gone-exhale s late g = (
     record {
       then = λ e. absurd (omega arith);
@@ -128,7 +127,7 @@ module _ (w : Switch) {t : Slot} {cs : List Cell} (f : Fit w.ports t cs) (c : Ce
     shown_mine k = mine k.number k.below k.lives k.entered k.input
 
     -- with none before it
-    first-exhale : (s : ℕ) → w.next.0 ≡ s → So (is_emitted w.ports cs q) → Departs w cs c s
+    pub first-exhale : (s : ℕ) → w.next.0 ≡ s → So (is_emitted w.ports cs q) → Departs w cs c s
     first-exhale s now x = (
       record {
         then = λ e. subst (λ (o : ℕ). So (emits list o) × So (same (emitted list o) c)) y.same.output own;
@@ -146,7 +145,7 @@ module _ (w : Switch) {t : Slot} {cs : List Cell} (f : Fit w.ports t cs) (c : Ce
             refuted x (subst (λ j. No (is_emitted w.ports cs j)) (mine k b.0 b.2 b.3 b.4) b.1)
 
     -- with some before it
-    later_exhale : (s e : ℕ) → suc e + w.next.0 ≡ s → No (is_emitted w.ports cs q) → elders (exhale w.ports cs) c ≡ e → Departs w cs c s
+    pub later_exhale : (s e : ℕ) → suc e + w.next.0 ≡ s → No (is_emitted w.ports cs q) → elders (exhale w.ports cs) c ≡ e → Departs w cs c s
     later_exhale s e z x b = (
       record {
         then = λ n. absurd (omega arith);
@@ -161,16 +160,3 @@ module _ (w : Switch) {t : Slot} {cs : List Cell} (f : Fit w.ports t cs) (c : Ce
         turn = omega (arith, b);
       }),
     )
-
-pub due_exhale : (w : Switch) {t : Slot} {cs : List Cell} → w.ports ≤ most_ports → Fit w.ports t cs → Led (length cs) age (nth cs) → {c : Cell} {s : ℕ}
-    → Due c s w.next.0 cs → Leaves c s w (exhaled w.ports cs) × Due c s (suc w.next.0) (exhale w.ports cs)
-due_exhale w {t} {cs} ports f led {c} {s} (inr g) = gone-exhale w f c s g.0 g.1
-due_exhale w {t} {cs} ports f led {c} {s} (inl q) = go (elders cs c) refl
-  where
-    go : (e : ℕ) → elders cs c ≡ e → Departs w cs c s
-    go zero z =
-        first-exhale w f c q.below q.stays s (omega (arith, z, q.turn))
-        (leaves_now ports f led q.below q.stays (λ k l v x. no_elders cs c z k l x))
-    go (suc e) z =
-        later_exhale w f c q.below q.stays s e (omega (arith, z, q.turn))
-        (stays_behind ports f led q.below q.stays e z) (one_fewer ports f led q.below q.stays e z)

@@ -7,7 +7,7 @@ use Rattle.std.proofs.Math.Bool.{So}
 use borrow.Author.Tests.{eqb-true, eq-eqb}
 use Rattle.laws.specs.Tests.{No, both, join, passes, refuted, denied, deny}
 use Rattle.laws.specs.Count.{count, count_either, count_none, count_mono}
-use Rattle.laws.specs.Least.{largest_key}
+use Rattle.laws.proofs.Least.{largest_key}
 use Rattle.rules.specs.declared.Cell.{Cell}
 use Rattle.demands.specs.Ages.{age, reach, standing}
 use Rattle.demands.specs.Ahead.{ready_in, is_ahead, ahead→, →ahead, is_younger, younger→, Slack}

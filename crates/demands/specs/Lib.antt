@@ -5,11 +5,8 @@ pub mod Exchange
 pub mod Phase
 pub mod Led
 pub mod Steps
-pub mod Slots
-pub mod States
 pub mod Conserves
 pub mod Elders
 pub mod Due
-pub mod Departs
 pub mod Needs
 pub mod Demands

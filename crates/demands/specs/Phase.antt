@@ -3,7 +3,7 @@
 -- Assumes nothing.
 use Rattle.std.specs.Prelude.{◌≡◌, ◌⊎◌, ◌&&◌, eqb}
 use Rattle.std.proofs.Math.Path.{refl, ap}
-use Rattle.std.proofs.Common.{subst₂, arith, eqb-true, eq-eqb}
+use Rattle.std.proofs.Common.{arith, eqb-true, eq-eqb}
 use Rattle.std.proofs.Math.Logic.{inl, inr, ⊎_elim}
 use Rattle.std.proofs.Math.Bool.{Bool, So}
 use Prim.Native.Nat.{ℕ, suc, ◌+◌, ◌*◌, ◌≤◌, ◌<◌}
@@ -29,7 +29,7 @@ pub record Phase (n : ℕ) (key : Cell → ℕ) (r : ℕ → ℕ) (m : ℕ → B
 
 module _ {n : ℕ} {key : Cell → ℕ} {v : ℕ} {r : ℕ → ℕ} {m : ℕ → Bool} {t u : ℕ → Cell} {a b : ℕ}
     (law : Weighs key v) (p : Phase n key r m t u) (inv : Slack n key v r t a b) where
-  unmoved : (k : ℕ) → k < n → (u k).place ≡ 1 → No (m k)
+  pub unmoved : (k : ℕ) → k < n → (u k).place ≡ 1 → No (m k)
   unmoved k i w = ⊎_elim (λ x. absurd (omega (arith, place≡ (p.moved k i x)))) (λ x. x) (passes (m k))
 
   -- the cells that are left
@@ -80,10 +80,10 @@ module _ {n : ℕ} {key : Cell → ℕ} {v : ℕ} {r : ℕ → ℕ} {m : ℕ →
           p.outputs j k hj hk x'.0 y'.0 (omega (arith, eqb-true))
 
   module _ (f l : ℕ) (hf : f < n) (hl : l < n) (nf : No (m f)) (nl : No (m l)) (wl : (t l).place ≡ 1) (hfl : So (is_ahead r (t l) (t f))) where
-    abbrev Goal : Type 0
+    abbrev pub Goal : Type 0
     Goal = count (λ k. is_younger key (t f) (u k)) n + v * count (λ k. is_ahead r (t l) (u k)) n + suc a ≤ ready_in n u (t l).output.0 + b
 
-    abbrev gone : ℕ → Bool
+    abbrev pub gone : ℕ → Bool
     gone k = m k && is_ahead r (t l) (t k)
 
     abbrev out : ℕ
@@ -103,7 +103,7 @@ module _ {n : ℕ} {key : Cell → ℕ} {v : ℕ} {r : ℕ → ℕ} {m : ℕ →
     ready-after k = is_ready_for (output_of out) (u k)
 
     -- a cell moved that stands before l at its input
-    from_input : (k : ℕ) × (k < n) × So (gone k) → Goal
+    pub from_input : (k : ℕ) × (k < n) × So (gone k) → Goal
     unfolding ahead_before ahead_after ready-before ready-after
     from_input x =
         let d = x.0 in
@@ -141,24 +141,9 @@ module _ {n : ℕ} {key : Cell → ℕ} {v : ℕ} {r : ℕ → ℕ} {m : ℕ →
           (rw (p.moved d.0 d.1 d.2) (→ready_for (output_of out) (placed 2 (t d.0)) refl d.3))
           (λ z. omega (arith, (ready_for→ (output_of out) (t d.0) z).0, p.waits d.0 d.1 d.2))
 
-      from_output : Goal
+      pub from_output : Goal
       unfolding ahead_before ahead_after ready-before ready-after
       from_output =
           let left = count_mono ahead_after ahead_before n (stay (t l)) in
           let none = count_mono (λ k. is_younger key (t f) (u k)) (λ k. is_younger key (t f) (t k)) n (old (exit f hf hfl nf)) in
           omega (arith, inv.slack f l hf hl wl hfl, more, mul-le-mul_left v left, none)
-
-    gains : Goal
-    gains = ⊎_elim from_input from_output (find gone n)
-
-  pub phase_gains : Slack n key v r u (suc a) b
-  phase_gains = record { slack = each }
-    where
-      each : (f l : ℕ) → f < n → l < n → (u l).place ≡ 1 → So (is_ahead r (u l) (u f))
-          → count (λ k. is_younger key (u f) (u k)) n + v * count (λ k. is_ahead r (u l) (u k)) n + suc a ≤ ready_in n u (u l).output.0 + b
-      each f l hf hl wl hfl =
-          let nf = unmoved f hf (ahead→ r (u l) (u f) hfl).0 in
-          let nl = unmoved l hl wl in
-          let ef : u f ≡ t f = p.kept f hf nf in
-          let el : u l ≡ t l = p.kept l hl nl in
-          rw (ef, el) (gains f l hf hl nf nl (rw el at wl) (subst₂ (λ x y. So (is_ahead r x y)) el ef hfl))

@@ -6,18 +6,18 @@ use Rattle.std.proofs.Common.{sym, ◌∙◌, inl, inr, ⊎_elim, arith, eqb-tru
 use Rattle.std.proofs.Math.Bool.{So}
 use Rattle.laws.specs.Tests.{No, both, join, passes}
 use Rattle.laws.specs.Count.{count, count_either, count_none, count_one, count_mono}
-use Rattle.laws.specs.Lists.{get_d_tabulate}
+use Rattle.laws.specs.Lists.{get_or-tabulate}
 use Rattle.rules.specs.declared.Output.{Output}
 use Rattle.rules.specs.declared.Slot.{Slot}
 use Rattle.rules.specs.declared.Cell.{Cell}
 use Rattle.rules.specs.Cells.{most_ports, slot_of, output_of, nth, is_ready_for, reading_for, before}
 use Rattle.rules.specs.Phases.{ready_count, readings, moved, is_emitted, exhale}
-use Rattle.ideal.specs.Cells.{place≡, input≡, entered≡, waiting→, ready_for→}
+use Rattle.ideal.specs.Cells.{place≡, waiting→, ready_for→}
 use Rattle.ideal.specs.Fit.{Fit}
 use Rattle.ideal.specs.Phases.{moved_yes, moved_no, Picks}
 use Rattle.ideal.specs.Inhale.{Inhaled, inhaled_was}
 use Rattle.ideal.specs.Exhale.{exhale_kept, exhale-left}
-use Rattle.ideal.specs.Meets.{one_each}
+use Rattle.ideal.proofs.Meets.{one_each}
 use Rattle.demands.specs.Ages.{age, slot_end, reach, standing, aged, age_below, age_later, before→}
 use Rattle.demands.specs.Ahead.{ready_in}
 use Rattle.demands.specs.Exchange.{comes, comes→, Exchange}
@@ -73,7 +73,7 @@ module _ {n : ℕ} {t : Slot} {arrivals : List ℕ} {cs us : List Cell} (h : Inh
 -- the reading is the count
 pub reading_is : (cs : List Cell) (o : Output) → o.0 < most_ports → reading_for (readings cs) o ≡ ready_in (length cs) (nth cs) o.0
 unfolding reading_for readings ready_count
-reading_is cs o l = get_d_tabulate (λ o. ready_count cs (output_of o)) most_ports 0 o.0 l
+reading_is cs o l = get_or-tabulate (λ o. ready_count cs (output_of o)) most_ports 0 o.0 l
 
 module _ {n : ℕ} {t : Slot} {cs : List Cell} {key : Cell → ℕ} {rs : List ℕ} {m : ℕ → Bool} (r : ℕ → ℕ) (ports : n ≤ most_ports) (clock : t.0 ≤ slot_end)
     (f : Fit n t cs) (read : (o : Output) → o.0 < most_ports → reading_for rs o ≡ r o.0) (p : Picks cs m) (a : Advances key rs cs m) where

@@ -36,6 +36,7 @@ fn write_numbers(numbers: &mut [u32], w: Switch)
 }
 
 // A fresh start: 0, or 1, 2 or 3, and 255 for a list of numbers that has not three words. Not done, it changes nothing.
+#[tactic(auto, using(crate::specs::Exports::started_numbered, crate::specs::Exports::started_unnumbered))]
 #[unsafe(no_mangle)]
 pub extern "C" fn treikwater_fresh_start(numbers: &mut [u32], table: &mut [u32]) -> u32
     ensures { record { number = result; numbers = numbers.new; table = table.new }
@@ -54,6 +55,7 @@ pub extern "C" fn treikwater_fresh_start(numbers: &mut [u32], table: &mut [u32])
 }
 
 // One slot: 0, or a number from 1 to 8, and 255 as above. Not done, it changes nothing.
+#[tactic(auto, using(crate::specs::Exports::slot_numbered, crate::specs::Exports::slot_unnumbered_lem))]
 #[unsafe(no_mangle)]
 pub extern "C" fn treikwater_slot(
     numbers: &mut [u32],

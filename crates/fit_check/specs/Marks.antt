@@ -1,7 +1,7 @@
 -- Marks of live cells, by the remainders of slot and input. Two records with the same slot and input have the same mark, so a cell whose mark is
 -- new is alone. Nothing here asks whether a record is sound.
 -- Assumes nothing.
-use Rattle.std.specs.Prelude.{ℕ, ◌+◌, ◌-◌, ◌%◌, ◌<◌, ◌≡◌, refl, Bool, true, false, not, eqb, length, get_or, set}
+use Rattle.std.specs.Prelude.{ℕ, ◌+◌, ◌%◌, ◌<◌, ◌≡◌, refl, Bool, true, false, not, eqb, length, get_or, set}
 use Rattle.std.proofs.Common.{sym, ap₂, ◌∙◌, arith, add-one, eqb-true, length-set, get_or-set_same, get_or-set_other}
 use Rattle.std.proofs.Math.Path.{ap}
 use Rattle.std.proofs.Math.Bool.{So}

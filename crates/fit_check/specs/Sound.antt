@@ -10,7 +10,8 @@ use Rattle.laws.specs.Bits.{or_none, or_to, or_to-none, none-or_to}
 use Rattle.laws.specs.Tests.{No, both, join, passes, refuted, to_no, denied, deny, same_test, cond_true}
 use Rattle.rules.specs.declared.Cell.{Cell}
 use Rattle.rules.specs.Cells.{free, nth, is_free, is_blank, is_sound, width}
-use Rattle.words.specs.Behind.{behind, blank→, →blank, blank-free, free-blank}
+use Rattle.words.specs.Behind.{behind, blank→, →blank, free-blank}
+use Rattle.words.proofs.Behind.{blank-free}
 use Rattle.fit_check.specs.declared.Bounds.{Bounds}
 
 abbrev pub sound_by : Bounds → Cell → Bool

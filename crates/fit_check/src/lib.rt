@@ -37,6 +37,7 @@ fn behind_place(c: Cell) -> u32
 }
 
 // What a record must meet by itself.
+#[tactic(auto, using(crate::specs::Sound::or_blank), unfolding(rules::specs::Cells::is_sound, rules::specs::Cells::is_free))]
 fn is_sound(c: Cell, bounds: Bounds) -> bool
     ensures { result ≡ sound_by bounds c }
 {
@@ -144,7 +145,7 @@ fn list_touched(table: &[u32], k: usize, count: usize, blocks: &mut [u8; sift::B
     requires blocks { Blocks table.now k count }
     requires blocks_len { length blocks.old ≡ block_count }
     ensures sifted { Sifted (BlockFree table.now k) blocks.new result count }
-    ensures blocks_len_2 { length blocks.new ≡ block_count }
+    ensures blocks_len { length blocks.new ≡ block_count }
 {
     let mut found = 0;
     let mut b = 0;
@@ -157,6 +158,7 @@ fn list_touched(table: &[u32], k: usize, count: usize, blocks: &mut [u8; sift::B
 }
 
 // What stands behind the place of a free record; 0 of a live one.
+#[tactic(auto, using(crate::specs::Sound::live_stray, crate::specs::Sound::or_stray))]
 fn stray_of(c: Cell) -> u32
     ensures { not (eqb result 0) ≡ is_stray c }
 {

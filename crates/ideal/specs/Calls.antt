@@ -1,33 +1,28 @@
 -- What an accepted call says of its input and leaves: a fit table for the next slot, by the published model; and what a refused one leaves.
 -- Assumes nothing.
-use Rattle.std.specs.Prelude.{◌≡◌, not, List, ℕ, suc, ◌+◌, ◌*◌, ◌≤◌, ◌<◌, eqb, length}
+use Rattle.std.specs.Prelude.{◌≡◌, not, List, ℕ, ◌+◌, ◌*◌, ◌≤◌, ◌<◌, eqb, length}
 use Rattle.std.proofs.Math.Path.{refl}
 use Rattle.std.proofs.Common.{⊎_elim, arith, eq-zero-or-pos}
 use Rattle.std.proofs.Math.Bool.{So}
 use Rattle.std.proofs.Math.Dec.{ltb}
 use borrow.Author.Tests.{eqb-true, eqb-false, ltb-false, not-false}
 use Rattle.laws.specs.Tests.{No, both, neither, to_no, cond_true, cond_false}
-use Rattle.laws.specs.Walk.{over}
 use Rattle.laws.specs.Count.{any, none→}
 use Rattle.rules.specs.declared.Cell.{Cell}
 use Rattle.rules.specs.declared.Switch.{Switch}
 use Rattle.rules.specs.declared.Answer.{Answer}
 use Rattle.rules.specs.declared.Answer.TheVariants.{Done, BadPorts, BadSpeedup, BadRecords, Unfit, BadLists, NoSuchOutput, ClockSpent, NoRoom}
-use Rattle.rules.specs.Cells.{most_ports, most_speedup, most_records, last_slot, slot_of, nth, is_whole, records, cells_of}
+use Rattle.rules.specs.Cells.{most_ports, most_speedup, most_records, last_slot, slot_of, is_whole, records, cells_of}
 use Rattle.rules.specs.Answers.{Lists, is_done, outside, arrival_width, exhaled_width, lengths_fit, first_word, arriving, live, first_of, fresh_answer, slot_answer}
 use Rattle.rules.specs.Answers.{size_checks, table_checks, list_checks, arrival_checks, clock_checks, room_checks, fresh_checks, slot_checks}
-use Rattle.rules.specs.Phases.{readings, match_of, phases, is_emitted, exhale}
+use Rattle.rules.specs.Phases.{readings, phases, exhale}
 use Rattle.rules.specs.Calls.{starts_fresh, start_refused, fresh_start, entered, transferred, slot_runs, slot_refused, slot}
-use Rattle.rules.specs.Model.{among, arrived, Initial, Slotted}
-use Rattle.words.specs.Words.{length-cells_of, cells_of-words_of, cells_of-zeros}
-use Rattle.ideal.specs.Cells.{place≡, live→, same_refl}
+use Rattle.rules.specs.Model.{Initial}
+use Rattle.words.specs.Words.{length-cells_of}
+use Rattle.words.proofs.Words.{cells_of-words_of, cells_of-zeros}
+use Rattle.ideal.specs.Cells.{place≡}
 use Rattle.ideal.specs.Fit.{Fit, fit→, free_sound}
-use Rattle.ideal.specs.Match.{match_is}
-use Rattle.ideal.specs.Phases.{phases_suc, phases-fit}
-use Rattle.ideal.specs.Inhale.{inhale_is, inhale-fit}
-use Rattle.ideal.specs.Exhale.{exhale-fit}
-use Rattle.ideal.specs.Meets.{fit_single, fresh_meets, inhale_meets, transfer_meets, exhale_meets}
-use Rattle.ideal.specs.Only.{Distinct, fit_distinct}
+use Rattle.ideal.specs.Meets.{fresh_meets}
 use Rattle.ideal.specs.Refusals.{refuses, same_answer, holds_for, passed, is_done_lem, group_both}
 
 -- What is accepted -------------------------------------------------------------------------------
@@ -177,33 +172,6 @@ module _ {w : Switch} {table : List ℕ} {l : Lists} (a : Accepted w table l) wh
   abbrev pub after : ℕ → List Cell
   after j = phases w.ports (readings full) full j
 
-  pub entered-fit : Fit w.ports (slot_of (suc w.next.0)) full
-  unfolding entered
-  entered-fit = inhale-fit w.ports w.next arrivals (cells_of table) a.room a.fits a.known
-
-  pub after-fit : (j : ℕ) → Fit w.ports (slot_of (suc w.next.0)) (after j)
-  after-fit j = phases-fit entered-fit (readings full) j
-
   pub slot_cells : cells_of (slot_runs w table arrivals).table ≡ exhale w.ports (after w.speedup)
   unfolding slot_runs transferred
   slot_cells = cells_of-words_of (exhale w.ports (after w.speedup))
-
-  -- an accepted slot leaves a fit table for the next slot number
-  pub slot-fit : Fit w.ports (slot_of (suc w.next.0)) (cells_of (slot_runs w table arrivals).table)
-  slot-fit = rw slot_cells (exhale-fit (after-fit w.speedup))
-
-  -- and it is a slot of the published model, from the cells that arrive to the cells that leave
-  pub slot_meets : Slotted w.speedup w.next (arrived w.ports w.next arrivals) (λ j. among (match_of w.ports (readings full) (after j)) (after j))
-      (among (is_emitted w.ports (after w.speedup)) (after w.speedup)) (cells_of table) after (cells_of (slot_runs w table arrivals).table)
-  unfolding phases over entered
-  slot_meets =
-      record {
-        inhales = inhale_meets w.ports w.next arrivals (cells_of table) full (inhale_is w.ports w.next arrivals (cells_of table) a.room);
-        single = λ j k hj hk wj wk s. fit_single entered-fit (nth full k) j k hj hk (live→ _ wj) (live→ _ wk) s (same_refl (nth full k));
-        transfers = λ j m. rw (phases_suc w.ports (readings full) full j) (transfer_meets (after-fit j) (match_is (after-fit j) (readings full)));
-        exhales = rw slot_cells (exhale_meets (after-fit w.speedup));
-      }
-
-  -- nothing in it is told apart by less than slot and input, so that the model's slot is this one only (Only.antt)
-  pub slot_distinct : Distinct (after w.speedup)
-  slot_distinct = fit_distinct (after-fit w.speedup)

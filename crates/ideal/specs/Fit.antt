@@ -13,7 +13,7 @@ use Rattle.laws.specs.Order.{neither_lower}
 use Rattle.rules.specs.declared.Slot.{Slot}
 use Rattle.rules.specs.declared.Cell.{Cell}
 use Rattle.rules.specs.Cells.{free, nth, is_free, is_blank, is_sound, is_alone, same_entry, fit, before}
-use Rattle.words.specs.Behind.{blank-free}
+use Rattle.words.proofs.Behind.{blank-free}
 use Rattle.ideal.specs.Cells.{place≡, Same, same_self, same_on, free→, →free, live→, →live, same_entry→, →same_entry, before_tie}
 
 -- a record by itself

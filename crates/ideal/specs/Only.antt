@@ -6,7 +6,8 @@ use Rattle.std.proofs.Math.Bool.{So}
 use Rattle.laws.specs.Tests.{passes, refuted, to_no, both, join, denied, deny, same_test}
 use Rattle.laws.specs.Choice.{Choice, choice_unique}
 use Rattle.laws.specs.Count.{count_into}
-use Rattle.laws.specs.Least.{Least, lowest, lowest_is}
+use Rattle.laws.specs.Least.{Least, lowest}
+use Rattle.laws.proofs.Least.{lowest_is}
 use Rattle.laws.specs.Lists.{tabulate-same}
 use Rattle.laws.specs.declared.Found.{Found}
 use Rattle.laws.specs.declared.Found.TheVariants.{At, Nothing}

@@ -9,7 +9,7 @@ use Rattle.std.proofs.Math.Bool.{So, cond}
 use Rattle.laws.specs.Tests.{No, passes, cond_true, cond_false}
 use Rattle.laws.specs.Walk.{over}
 use Rattle.laws.specs.Count.{count_same}
-use Rattle.laws.specs.Lists.{length-tabulate, get_d_tabulate, set_cases}
+use Rattle.laws.specs.Lists.{length-tabulate, get_or-tabulate, set_cases}
 use Rattle.rules.specs.declared.Slot.{Slot}
 use Rattle.rules.specs.declared.Cell.{Cell}
 use Rattle.rules.specs.Cells.{free, nth, placed, is_waiting, is_live}
@@ -28,7 +28,7 @@ module _ (m : ℕ → Bool) (cs : List Cell) where
 
   nth-moved : (k : ℕ) → k < length cs → nth (moved m cs) k ≡ cond (m k) (placed 2 (nth cs k)) (nth cs k)
   unfolding moved
-  nth-moved k l = get_d_tabulate (λ k. cond (m k) (placed 2 (nth cs k)) (nth cs k)) (length cs) free k l
+  nth-moved k l = get_or-tabulate (λ k. cond (m k) (placed 2 (nth cs k)) (nth cs k)) (length cs) free k l
 
   -- "their records change in the place only"
   pub moved_yes : (k : ℕ) → k < length cs → So (m k) → nth (moved m cs) k ≡ placed 2 (nth cs k)

@@ -3,7 +3,7 @@
 -- Assumes nothing.
 use Rattle.std.specs.Prelude.{◌≡◌, ◌⊎◌, Bool, true, false, cond, ℕ, suc, ◌≤◌, ◌<◌, ltb}
 use Rattle.std.proofs.Math.Path.{refl}
-use Rattle.std.proofs.Common.{sym, ap, ◌∙◌, subst, inl, inr, ⊎_elim, arith, ltb-true, ltb-false, le-ltb}
+use Rattle.std.proofs.Common.{sym, ap, ◌∙◌, inl, inr, ⊎_elim, arith, ltb-true, ltb-false, le-ltb}
 use Rattle.std.proofs.Math.Bool.{So}
 use Rattle.laws.specs.Tests.{No, refuted, to_no}
 use Rattle.laws.specs.Walk.{over_ind, below_suc}
@@ -71,7 +71,7 @@ module _ (before : ℕ → ℕ → Bool) (w : Ranks before) where
   ahead_self : (k : ℕ) → Ahead before k k
   ahead_self k = inr (w.strict.irreflexive k, omega arith)
 
-  ahead_on : (a b c : ℕ) → Ahead before a b → Ahead before b c → Ahead before a c
+  pub ahead_on : (a b c : ℕ) → Ahead before a b → Ahead before b c → Ahead before a c
   ahead_on a b c (inl x) (inl y) = inl (w.strict.transitive a b c x y)
   ahead_on a b c (inl x) (inr y) = inl (⊎_elim (λ v. v) (λ v. absurd (refuted v y.0)) (w.between a c b x))
   ahead_on a b c (inr x) (inl y) = inl (⊎_elim (λ v. absurd (refuted v x.0)) (λ v. v) (w.between b a c y))
@@ -105,10 +105,7 @@ module _ (before : ℕ → ℕ → Bool) (w : Ranks before) where
   unfolding least
   least_first p n = over_ind _ Nothing (First p before) (λ j l. absurd (omega arith)) n (λ k l x h. first_step p k x (p k) refl h)
 
-  pub first-least : (p : ℕ → Bool) (n : ℕ) (x : Found) → First p before n x → x ≡ least p before n
-  first-least p n x h = first_one p n x (least p before n) h (least_first p n)
-
-  first_two : (j k : ℕ) → (m : ℕ) × (first_found before (At j) (At k) ≡ At m) × Ahead before m j × Ahead before m k × ((m ≡ j) ⊎ (m ≡ k))
+  pub first_two : (j k : ℕ) → (m : ℕ) × (first_found before (At j) (At k) ≡ At m) × Ahead before m j × Ahead before m k × ((m ≡ j) ⊎ (m ≡ k))
   first_two j k = go (before k j) (before j k) (ltb k j) refl refl refl
     where
       go : (a b c : Bool) → before k j ≡ a → before j k ≡ b → ltb k j ≡ c
@@ -117,21 +114,6 @@ module _ (before : ℕ → ℕ → Bool) (w : Ranks before) where
       go false true c x y z = (j, refl, ahead_self j, inl y, inl refl)
       go false false true x y z = (k, refl, inr (y, omega (arith, ltb-true k j z)), ahead_self k, inr refl)
       go false false false x y z = (j, refl, ahead_self j, inr (x, ltb-false k j z), inl refl)
-
-  -- the first of a whole of two parts
-  module _ (p q s : ℕ → Bool) (n : ℕ) (left : (j : ℕ) → j < n → So (p j) → So (s j)) (right : (j : ℕ) → j < n → So (q j) → So (s j))
-      (parts : (j : ℕ) → j < n → So (s j) → So (p j) ⊎ So (q j)) where
-    pub first_join : (x y : Found) → First p before n x → First q before n y → First s before n (first_found before x y)
-    first_join Nothing Nothing h g = λ j l v. ⊎_elim (λ u. h j l u) (λ u. g j l u) (parts j l v)
-    first_join Nothing (At k) h g = (g.0, right k g.0 g.1, λ j l v. ⊎_elim (λ u. absurd (h j l u)) (λ u. g.2 j l u) (parts j l v))
-    first_join (At j) Nothing h g = (h.0, left j h.0 h.1, λ i l v. ⊎_elim (λ u. h.2 i l u) (λ u. absurd (g i l u)) (parts i l v))
-    first_join (At j) (At k) h g =
-        let t = first_two j k in
-        subst (First s before n) (sym t.1) (
-          ⊎_elim (λ (e : t.0 ≡ j). rw e h.0) (λ (e : t.0 ≡ k). rw e g.0) t.4,
-          ⊎_elim (λ (e : t.0 ≡ j). rw e (left j h.0 h.1)) (λ (e : t.0 ≡ k). rw e (right k g.0 g.1)) t.4,
-          λ i l v. ⊎_elim (λ u. ahead_on t.0 j i t.2 (h.2 i l u)) (λ u. ahead_on t.0 k i t.3 (g.2 i l u)) (parts i l v),
-        )
 
 -- tests that agree below n, with orders that agree on what passes, have the same first
 pub first_alike : (p q : ℕ → Bool) (before after : ℕ → ℕ → Bool) (n : ℕ) → ((k : ℕ) → k < n → p k ≡ q k)

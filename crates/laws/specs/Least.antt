@@ -1,15 +1,14 @@
 -- Of the numbers below n that pass a test, the one that stands before the others.
 -- Assumes nothing.
-use Rattle.std.specs.Prelude.{◌≡◌, ◌⊎◌, Bool, true, false, cond, ◌&&◌, ℕ, zero, suc, ◌+◌, ◌-◌, ◌≤◌, ◌<◌, ltb, eqb}
+use Rattle.std.specs.Prelude.{◌≡◌, Bool, true, false, cond, ℕ, zero, suc, ◌+◌, ◌-◌, ◌≤◌, ◌<◌, ltb, eqb}
 use Rattle.std.proofs.Math.Path.{refl}
-use Rattle.std.proofs.Common.{sym, ap, ◌∙◌, inl, inr, arith, add-zero, eqb-true, eq-eqb, ltb-false, le-ltb}
+use Rattle.std.proofs.Common.{sym, ap, arith, add-zero, eqb-true, le-ltb}
 use Rattle.std.proofs.Math.Bool.{So}
 use Rattle.std.proofs.lemmas.Bool.{false≢true}
 use Rattle.std.proofs.Math.Numerals.{add-one}
-use Rattle.laws.specs.Tests.{No, refuted, to_no, both, join}
+use Rattle.laws.specs.Tests.{No, refuted, to_no}
 use Rattle.laws.specs.Walk.{over, over_ind, below_suc}
-use Rattle.laws.specs.Count.{count, count_into}
-use Rattle.laws.specs.Order.{Strict, ltb_strict, strict_on, strict_back}
+use Rattle.laws.specs.Order.{Strict}
 use Rattle.laws.specs.declared.Found.{Found}
 use Rattle.laws.specs.declared.Found.TheVariants.{At, Nothing}
 
@@ -128,44 +127,14 @@ least_passes p before n = over_ind _ Nothing (λ k x. Passes p x) tt n (λ k l x
     step k Nothing true e h = e
     step k Nothing false e h = tt
 
-pub least_at : (p : ℕ → Bool) (before : ℕ → ℕ → Bool) (n k : ℕ) → least p before n ≡ At k → (k < n) × So (p k)
-least_at p before n k e = (rw e at (least_below p before n), rw e at (least_passes p before n))
-
--- tests that agree below n, with orders that agree on what passes, find the same
-pub least_alike : (p q : ℕ → Bool) (before after : ℕ → ℕ → Bool) (n : ℕ) → ((k : ℕ) → k < n → p k ≡ q k)
-    → ((j k : ℕ) → j < n → k < n → So (q j) → So (q k) → before j k ≡ after j k) → least p before n ≡ least q after n
-unfolding least over
-least_alike p q before after zero h g = refl
-least_alike p q before after (suc n) h g =
-    rw (h n (omega arith), least_alike p q before after n (λ k l. h k (omega arith)) (λ j k i l. g j k (omega arith) (omega arith)))
-    (step (q n) refl (least q after n) (least_below q after n) (least_passes q after n))
-  where
-    step : (b : Bool) → q n ≡ b → (x : Found) → Below n x → Passes q x → sooner before x b n ≡ sooner after x b n
-    step true e (At j) l s = ap (λ t. cond t (At n) (At j)) (g n j (omega arith) (omega arith) e s)
-    step false e (At j) l s = refl
-    step true e Nothing l s = refl
-    step false e Nothing l s = refl
-
--- tests that agree below n find the same
-pub least-same : (p q : ℕ → Bool) (before after : ℕ → ℕ → Bool) (n : ℕ) → ((k : ℕ) → k < n → p k ≡ q k)
-    → ((j k : ℕ) → j < n → k < n → before j k ≡ after j k) → least p before n ≡ least q after n
-least-same p q before after n h g = least_alike p q before after n h (λ j k i l x y. g j k i l)
-
 -- the lowest number that passes
 abbrev pub lowest : (ℕ → Bool) → ℕ → Found
 lowest p n = least p ltb n
 
 module _ (p : ℕ → Bool) where
-  pub lowest_is : (n : ℕ) → Least p ltb n (lowest p n)
-  lowest_is n = least_is p ltb ltb_strict n
-
   -- a loop that has found nothing yet, and the turn that finds
   pub lowest-none : (i : ℕ) → lowest p i ≡ Nothing → No (p i) → lowest p (i + 1) ≡ Nothing
   lowest-none i e h = rw (least_more p ltb i, e, h)
-
-  pub lowest_nothing : (n : ℕ) → ((k : ℕ) → k < n → No (p k)) → lowest p n ≡ Nothing
-  lowest_nothing zero h = least_zero p ltb
-  lowest_nothing (suc n) h = rw (← add-one n) (lowest-none n (lowest_nothing n (λ k l. h k (omega arith))) (h n (omega arith)))
 
   kept : (m d k : ℕ) → k < m → lowest p m ≡ At k → lowest p (m + d) ≡ At k
   kept m zero k l e = rw add-zero e
@@ -183,36 +152,3 @@ module _ (p : ℕ → Bool) where
       let q : lowest p (i + 1) ≡ At i = rw (least_more p ltb i, e, h) in
       let s : (i + 1) + (n - (i + 1)) ≡ n = omega arith in
       rw s at (kept (i + 1) (n - (i + 1)) i (omega arith) q)
-
--- one that passes with the largest key of those that do, or none passes
-pub largest_key : (p : ℕ → Bool) (key : ℕ → ℕ) (n : ℕ)
-    → ((k : ℕ) × (k < n) × So (p k) × ((j : ℕ) → j < n → So (p j) → key j ≤ key k)) ⊎ ((k : ℕ) → k < n → So (p k) → ⊥)
-largest_key p key n = go (least p higher n) (least_is p higher (strict_on (λ i j. ltb j i) (strict_back ltb ltb_strict) key) n)
-  where
-    higher : ℕ → ℕ → Bool
-    higher i j = ltb (key j) (key i)
-
-    go : (x : Found) → Least p higher n x
-        → ((k : ℕ) × (k < n) × So (p k) × ((j : ℕ) → j < n → So (p j) → key j ≤ key k)) ⊎ ((k : ℕ) → k < n → So (p k) → ⊥)
-    go (At k) h = inl (k, h.0, h.1, λ j l x. ltb-false (key k) (key j) (h.2 j l x))
-    go Nothing h = inr h
-
--- each number below n that passes q is f of one below m that passes p: no more of the first than of the second
-pub count_onto : (p : ℕ → Bool) (f : ℕ → ℕ) (m : ℕ) (q : ℕ → Bool) (n : ℕ)
-    → ((o : ℕ) → o < n → So (q o) → (k : ℕ) × (k < m) × So (p k) × (f k ≡ o)) → count q n ≤ count p m
-count_onto p f m q n from =
-    count_into q (λ o. number (first o)) m n p (λ o l x. let s = is o l x in (s.0, s.1)) (λ o q ho hq x y e. sym (is o ho x).2 ∙ ap f e ∙ (is q hq y).2)
-  where
-    first : ℕ → Found
-    first o = lowest (λ k. p k && eqb (f k) o) m
-
-    number : Found → ℕ
-    number (At k) = k
-    number Nothing = 0
-
-    is : (o : ℕ) → o < n → So (q o) → (number (first o) < m) × So (p (number (first o))) × (f (number (first o)) ≡ o)
-    is o l x = go (first o) (lowest_is (λ k. p k && eqb (f k) o) m)
-      where
-        go : (y : Found) → Least (λ k. p k && eqb (f k) o) ltb m y → (number y < m) × So (p (number y)) × (f (number y) ≡ o)
-        go (At k) h = let b = both (p k) _ h.1 in (h.0, b.0, eqb-true (f k) o b.1)
-        go Nothing h = let k = from o l x in absurd (h k.0 k.1 (join (p k.0) _ k.2 (eq-eqb (f k.0) o k.3)))

@@ -10,8 +10,7 @@ use Rattle.std.proofs.Math.Bool.{So}
 use Rattle.std.proofs.lemmas.Bool.{false≢true, eqb-false}
 use Rattle.std.proofs.lemmas.List.{length-replicate, get_or-replicate}
 use Rattle.laws.specs.Tests.{No, passes, refuted, to_no, both, join, either, on_left, on_right, denied, deny, same_test, eqb_self, cond_true}
-use Rattle.laws.specs.Order.{Ranks}
-use Rattle.laws.specs.First.{First, first_found, first_join}
+use Rattle.laws.specs.First.{First}
 use Rattle.laws.specs.declared.Found.{Found}
 use Rattle.laws.specs.declared.Found.TheVariants.{Nothing}
 
@@ -100,22 +99,6 @@ pub record FirstIn (test : ℕ → Bool) (port : ℕ → ℕ) (before : ℕ → 
 module _ {test : ℕ → Bool} {port : ℕ → ℕ} {before : ℕ → ℕ → Bool} {n : ℕ} where
   pub first-nobody : FirstIn test port before n nobody Nothing
   first-nobody = record { first = λ j l h. false≢true (both (test j) false h).1 }
-
-  -- what was found among the visited, or what the next one adds
-  pub first_visit : {v : ℕ → Bool} {x : Found} → Ranks before → FirstIn test port before n v x → (p : ℕ) (own : ℕ → Bool)
-      → ((k : ℕ) → k < n → own k ≡ (test k && eqb (port k) p)) → (y : Found) → First own before n y
-      → FirstIn test port before n (also v p) (first_found before x y)
-  unfolding also
-  first_visit {v} {x} w f p own is-own y g = record {
-    first =
-        first_join before w (λ k. test k && v (port k)) own (λ k. test k && also v p (port k)) n
-        (λ k l h. let b = both (test k) _ h in join _ _ b.0 (on_left _ _ b.1))
-        (λ k l h. let b = both (test k) _ (sym (is-own k l) ∙ h) in join _ _ b.0 (on_right (v (port k)) _ b.1))
-        (λ k l h.
-        let b = both (test k) _ h in
-        ⊎_elim (λ i. inl (join _ _ b.0 i)) (λ i. inr (is-own k l ∙ join _ _ b.0 i)) (either (v (port k)) _ b.1))
-        x y f.first g;
-  }
 
 -- The visited with the lowest key ----------------------------------------------------------------
 

@@ -14,7 +14,8 @@ use Rattle.std.proofs.Math.ListN.{length}
 use Rattle.laws.specs.Tests.{No, passes, refuted, to_no, both, join, denied, deny, same_test}
 use Rattle.laws.specs.Walk.{over, over_more}
 use Rattle.laws.specs.Count.{any, any→, →any}
-use Rattle.laws.specs.Least.{least, least-same}
+use Rattle.laws.specs.Least.{least}
+use Rattle.laws.proofs.Least.{least-same}
 use Rattle.laws.specs.declared.Found.{Found}
 use Rattle.laws.specs.declared.Found.TheVariants.{Nothing}
 use Rattle.ports.specs.Ports.{has, Added}
@@ -22,7 +23,8 @@ use Rattle.ports.specs.PortLaws.{has-none}
 use Rattle.rules.specs.declared.Cell.{Cell}
 use Rattle.rules.specs.Cells.{most_ports, free, placed, nth, input_of, output_of, is_waiting, before, cells_of}
 use Rattle.rules.specs.Phases.{conflict, is_open, first_open, none, add, add_found, round, match_of, is_taken_input, is_taken_output, moved}
-use Rattle.words.specs.Words.{with_records, with_long, with_cells, with_then, with_own}
+use Rattle.words.specs.Words.{with_records}
+use Rattle.words.proofs.Words.{with_long, with_cells, with_then, with_own}
 use Rattle.ideal.specs.Cells.{waiting→, conflict→, by_input, by_output, conflict_self, Same, same_self, placed_same, before_same}
 use Rattle.ideal.specs.Match.{in_add, to_add, self_add, open→, taken_in→, →taken_in, taken→, →taken}
 use Rattle.ideal.specs.Phases.{length_moved, moved_yes, moved_no}

@@ -14,10 +14,12 @@ use borrow.Author.Tests.{eqb-true, eqb-false, eq-eqb, ltb-true, ltb-false}
 use Rattle.laws.specs.Tests.{No, passes, refuted, to_no, both, join, denied, deny, same_test}
 use Rattle.laws.specs.Walk.{over_zero}
 use Rattle.laws.specs.Count.{any, any→, →any}
-use Rattle.laws.specs.Order.{lower, lower_below, lower_equal, ranks_on}
+use Rattle.laws.specs.Order.{lower_below, lower_equal, ranks_on}
 use Rattle.laws.specs.Least.{least, Below}
-use Rattle.laws.specs.First.{Ahead, First, first_found, first_alike, first-least, first_below, least_first}
-use Rattle.laws.specs.SetWalk.{also, FirstIn, first_visit, LowestOf, lowest_skip, lowest-fresh, lowest_tie, lowest-above, lowest-nobody, nobody}
+use Rattle.laws.specs.First.{Ahead, First, first_found, first_alike, first_below, least_first}
+use Rattle.laws.proofs.First.{first-least}
+use Rattle.laws.specs.SetWalk.{also, FirstIn, LowestOf, lowest_skip, lowest-fresh, lowest_tie, lowest-above, lowest-nobody, nobody}
+use Rattle.laws.proofs.SetWalk.{first_visit}
 use Rattle.laws.specs.declared.Found.{Found}
 use Rattle.laws.specs.declared.Found.TheVariants.{At, Nothing}
 use Rattle.ports.specs.declared.Tied.{Tied}

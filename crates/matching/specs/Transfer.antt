@@ -8,10 +8,11 @@ use Prim.Native.Nat.{ℕ, suc, ◌<◌}
 use Rattle.std.proofs.Math.ListN.{get_or}
 use Rattle.std.proofs.Math.Seq.{ext_get_or}
 use borrow.Author.Tests.{eqb-true}
-use Rattle.laws.specs.Tests.{No, to_no, both, cond_true, cond_false}
+use Rattle.laws.specs.Tests.{to_no, both, cond_true, cond_false}
 use Rattle.laws.specs.Count.{count, count_same, count-above, any→, →any}
-use Rattle.laws.specs.Least.{Least, lowest, lowest_is}
-use Rattle.laws.specs.Lists.{length-tabulate, get_d_tabulate}
+use Rattle.laws.specs.Least.{Least, lowest}
+use Rattle.laws.proofs.Least.{lowest_is}
+use Rattle.laws.specs.Lists.{length-tabulate, get_or-tabulate}
 use Rattle.laws.specs.SetWalk.{Filled}
 use Rattle.laws.specs.declared.Found.{Found}
 use Rattle.laws.specs.declared.Found.TheVariants.{At, Nothing}
@@ -19,7 +20,8 @@ use Rattle.ports.specs.Ports.{mask_ports, has}
 use Rattle.rules.specs.declared.Cell.{Cell}
 use Rattle.rules.specs.Cells.{most_ports, nth, output_of, cells_of, same_output}
 use Rattle.rules.specs.Phases.{match_of, is_taken_output, moves, phase, served_word, match_words}
-use Rattle.words.specs.Words.{with_records, with_long}
+use Rattle.words.specs.Words.{with_records}
+use Rattle.words.proofs.Words.{with_long}
 use Rattle.ideal.specs.Match.{taken→, match_waits}
 use Rattle.ideal.specs.Phases.{length_moved}
 use Rattle.queues.specs.Queues.{All, Queues}
@@ -79,7 +81,7 @@ module _ {n : ℕ} {ws : List ℕ} (order : Orderly n ws) (r : List ℕ) {us : L
       (λ o m.
       w.word o m
       ∙ shown_word o (lowest (chosen o) (length cs)) (lowest_is (chosen o) (length cs))
-      ∙ sym (get_d_tabulate (λ o. served_word cs (lowest (chosen o) (length cs))) n 0 o (rw l at m)))
+      ∙ sym (get_or-tabulate (λ o. served_word cs (lowest (chosen o) (length cs))) n 0 o (rw l at m)))
 
   -- as many ports are in the mask as cells move
   pub shows_moves : count (has q.outputs) mask_ports ≡ moves n (match_of n r (cells_of ws)) (cells_of ws)

@@ -13,14 +13,16 @@ use borrow.Rule.Slice.PartMut.{mid_of, post_of, put_mid, mid_len, Post-is}
 use Rattle.laws.specs.Tests.{No, to_no, fails_left}
 use Rattle.laws.specs.Walk.{over, over_more}
 use Rattle.laws.specs.Count.{count_hit}
-use Rattle.laws.specs.Least.{lowest, lowest_nothing}
-use Rattle.laws.specs.Lists.{blocks, blocks_zero, blocks_more, length-blocks, length-tabulate, get_d_tabulate}
+use Rattle.laws.specs.Least.{lowest}
+use Rattle.laws.proofs.Least.{lowest_nothing}
+use Rattle.laws.specs.Lists.{blocks, blocks_zero, blocks_more, length-blocks, length-tabulate, get_or-tabulate}
 use Rattle.rules.specs.declared.Cell.{Cell}
 use Rattle.rules.specs.Cells.{free, nth, output_of, same_output, cells_of}
 use Rattle.rules.specs.Phases.{match_of, moves, moved, phase, phases, match_words, served_word, is_taken_output}
 use Rattle.rules.specs.Phases.{matches as matches_of}
 use Rattle.ideal.specs.Match.{→taken, match_waits}
-use Rattle.words.specs.Words.{same-records, with_records, with_long, with_cells, with_then, with_own}
+use Rattle.words.specs.Words.{same-records, with_records}
+use Rattle.words.proofs.Words.{with_long, with_cells, with_then, with_own}
 use Rattle.ideal.specs.InPorts.{InPorts, in_ports_phases}
 use Rattle.ideal.specs.Phases.{length_moved, moved_no, phases_zero, length-phases}
 use Rattle.queues.specs.Queues.{All, Queues}
@@ -97,7 +99,7 @@ module _ {n : ℕ} {cs : List Cell} (f : InPorts n cs) (r : List ℕ) where
       ext_get_or 0 (match_words n (match_of n r cs) cs) (replicate n 0) (length-tabulate _ n ∙ sym (length-replicate {A = ℕ} n 0))
       (λ o l.
       let m : o < n = rw (length-tabulate (λ o. served_word cs (lowest (chosen o) (length cs))) n) at l in
-      get_d_tabulate _ n 0 o m
+      get_or-tabulate _ n 0 o m
       ∙ ap (served_word cs) (lowest_nothing (chosen o) (length cs) (λ k i. fails_left (match_of n r cs k) _ (quiet_none h k)))
       ∙ sym (get_or-replicate n o 0 0 m))
     where

@@ -100,8 +100,8 @@ struct Candidate {
 fn first_candidate(table: &[u32], queues: &[u16], r: Reading, taken: Taken, lows: u16) -> Candidate
     requires queues { Queues All (cells_of table.now) queues.now }
     requires kept { Kept r.counts taken (cells_of table.now) lows }
-    ensures found_value { result.found ≡ first_candidate r.counts (has taken.inputs) (has taken.outputs) (cells_of table.now) }
-    ensures kept_2 { Kept r.counts taken (cells_of table.now) result.lows }
+    ensures first { result.found ≡ first_candidate r.counts (has taken.inputs) (has taken.outputs) (cells_of table.now) }
+    ensures kept_next { Kept r.counts taken (cells_of table.now) result.lows }
 {
     let kept = ports::except(lows, taken.outputs);
     let found = first_among(table, queues, taken.inputs, kept);

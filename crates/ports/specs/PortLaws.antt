@@ -1,6 +1,6 @@
 -- The laws of sets of ports: what shifts, masks and sums of digits compute, how many ports are in a set, and that a set is what its members say.
 -- Assumes nothing.
-use Rattle.std.specs.Prelude.{◌≡◌, refl, Bool, false, not, ◌&&◌, ◌⊎◌, ℕ, zero, suc, ◌+◌, ◌-◌, ◌*◌, ◌/◌, ◌%◌, ◌^◌, ◌≤◌, ◌<◌, min, max, eqb, ltb}
+use Rattle.std.specs.Prelude.{◌≡◌, refl, Bool, false, not, ◌&&◌, ℕ, zero, suc, ◌+◌, ◌-◌, ◌*◌, ◌/◌, ◌%◌, ◌^◌, ◌≤◌, ◌<◌, min, max, eqb, ltb}
 use Rattle.std.proofs.Common.{sym, ap, ◌∙◌, subst, ⊎_elim, suc-le-suc, div-one, mod-lt, zero-lt-suc, pow-suc, mul-div_cancel, mod-eq_of_lt, one-mul, le_of_suc-le-suc, not-suc-le-zero, one-add, arith, eqb-true, lt-ltb, shr-shr}
 use Rattle.std.proofs.Math.Path.{fun_ext}
 use Rattle.std.proofs.Math.Bool.{So}
@@ -13,7 +13,8 @@ use Rattle.std.proofs.lemmas.Nat.{or_shr, and_mask, and_shr, xor_shr}
 use Rattle.std.specs.Int.Count.{ones, ones_step, count_trailing_zeros, under}
 use Rattle.laws.specs.Tests.{No, passes, refuted, to_no, both, denied}
 use Rattle.laws.specs.Count.{bit, count, count_zero, count_suc}
-use Rattle.laws.specs.Least.{Least, lowest, lowest_hit, lowest_is, lowest_nothing, least_at}
+use Rattle.laws.specs.Least.{Least, lowest, lowest_hit}
+use Rattle.laws.proofs.Least.{lowest_is, lowest_nothing, least_at}
 use Rattle.laws.specs.SetWalk.{nobody, also, also_is, Walked, walk_more, walk_all}
 use Rattle.laws.specs.declared.Found.TheVariants.{At}
 use Rattle.ports.specs.Ports.{mask_ports, digit, has, with_port, without_port, except_ports, Added, Removed, Except, Lowest, Visits}

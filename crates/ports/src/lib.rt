@@ -11,6 +11,7 @@ ghost use Rattle.ports.specs.Ports.{mask_ports, has, with_port, without_port, ex
 const MASK_PORTS: u32 = 16;
 
 // Whether the port is in the set. No port from 16 on is in one, and a mask cannot be shifted by so much.
+#[tactic(auto, using(crate::specs::PortLaws::has_above, crate::specs::PortLaws::has_by_shift))]
 pub fn holds(mask: u16, port: u32) -> bool
     ensures { result ≡ has mask port }
 {
@@ -20,7 +21,8 @@ pub fn holds(mask: u16, port: u32) -> bool
     (mask >> port) & 1 == 1
 }
 
-// The set and one more port; a port that is in it already stays.
+// The set and one more port; a port that is in it already stays. The or with a one at the port's digit changes that digit alone.
+#[tactic(auto, using(crate::specs::PortLaws::with_by_shift))]
 pub fn with(mask: u16, port: u32) -> u16
     requires { port < mask_ports }
     ensures { result ≡ with_port mask port }
@@ -28,7 +30,8 @@ pub fn with(mask: u16, port: u32) -> u16
     mask | (1u16 << port)
 }
 
-// The set with a port of it taken out.
+// The set with a port of it taken out. The digit is 1, so the subtraction takes it out and borrows from no other.
+#[tactic(auto, using(crate::specs::PortLaws::shift_le, crate::specs::PortLaws::without_by_shift))]
 pub fn without(mask: u16, port: u32) -> u16
     requires { (port < mask_ports) × (has mask port ≡ true) }
     ensures { result ≡ without_port mask port }
@@ -37,6 +40,7 @@ pub fn without(mask: u16, port: u32) -> u16
 }
 
 // The ports of a set that are not in another one.
+#[tactic(auto, unfolding(crate::specs::Ports::except_ports))]
 pub fn except(mask: u16, other: u16) -> u16
     ensures { result ≡ except_ports mask other }
 {
@@ -44,13 +48,15 @@ pub fn except(mask: u16, other: u16) -> u16
 }
 
 // How many ports are in the set.
+#[tactic(auto, using(crate::specs::PortLaws::count_ones))]
 pub fn size(mask: u16) -> u32
     ensures { result ≡ count (has mask) mask_ports }
 {
     u16::count_ones(mask)
 }
 
-// The lowest port of a set that is not empty.
+// The lowest port of a set that is not empty. The zeros below the lowest one are as many as that one's number.
+#[tactic(auto, using(crate::specs::PortLaws::lowest_by_trailing))]
 pub fn lowest(mask: u16) -> u32
     requires { 0 < mask }
     ensures { lowest_of (has mask) mask_ports ≡ At result }
@@ -66,6 +72,7 @@ pub struct Tied {
 }
 
 // The ports with the lowest reading, once a port whose reading is x is among those looked at.
+#[tactic(auto, unfolding(crate::specs::Ports::lowered))]
 pub fn lower_of(lowest: Tied, port: u32, x: u32) -> Tied
     requires { port < mask_ports }
     ensures { result ≡ lowered lowest port x }

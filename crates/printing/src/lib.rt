@@ -123,6 +123,7 @@ fn put_number(buf: &mut [u8], at: usize, number: u32) -> usize
 }
 
 // Most numbers are short, so the least are tried first.
+#[tactic(auto, using(crate::proofs::Digits::digit_counts))]
 fn digit_count(number: u32) -> usize
     ensures { result ≡ length (decimal number) }
 {

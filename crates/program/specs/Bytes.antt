@@ -13,7 +13,8 @@ use Rattle.characters.specs.Characters.{newline}
 use Rattle.text.specs.Lines.{prepended, cut, is_slot_line, slot_line_words}
 use Rattle.text.specs.Fields.{cut_some}
 use Rattle.text.specs.Steps.{LineState, slot_start, end_field, slot_step, is_complete, first_start, first_step, first_answer}
-use Rattle.text.specs.Reading.{Reads, first_law, slot_law}
+use Rattle.text.specs.Reading.{Reads, slot_law}
+use Rattle.text.proofs.Reading.{first_law}
 use Rattle.program.specs.Program.{lines_of, end_text, line_text, line_after, slots_text, first_text, opening_text}
 use Rattle.program.specs.Coming.{opening_from, line_end, line_from}
 

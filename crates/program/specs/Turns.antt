@@ -2,7 +2,7 @@
 -- Assumes nothing.
 use Rattle.std.specs.Prelude.{ℕ, ◌+◌, ◌*◌, ◌≤◌, ◌<◌, ◌≡◌, refl, Bool, true, false, cond, eqb, length, get_or, take, drop}
 use Rattle.std.proofs.Math.Path.{sym, ap}
-use Rattle.std.proofs.Common.{subst, ◌∙◌, arith, mul-le-mul, length-take-le, take_at}
+use Rattle.std.proofs.Common.{subst, ◌∙◌, arith, mul-le-mul, take_at}
 use Rattle.std.proofs.Math.Bool.{So}
 use mathlib.Core.List.{List, [], ◌∷◌, ◌++◌, append_assoc, append-nil}
 use Rattle.laws.specs.Tests.{No, cond_true, cond_false}
@@ -17,16 +17,16 @@ use Rattle.words.specs.Words.{length-cells_of}
 use Rattle.characters.specs.Characters.{newline}
 use Rattle.text.specs.declared.FirstReader.{FirstReader}
 use Rattle.text.specs.declared.SlotReader.{SlotReader}
-use Rattle.text.specs.Steps.{LineState, line_state_of, reader_start, end_field, is_complete, first_step}
+use Rattle.text.specs.Steps.{LineState, line_state_of, end_field, is_complete, first_step}
 use Rattle.text.specs.Parts.{LineTaken}
 use Rattle.printing.specs.Prints.{Put, put_none, put_then, put_within}
 use Rattle.program.specs.declared.Running.{Running}
 use Rattle.program.specs.declared.Program.{Program}
 use Rattle.program.specs.declared.Program.TheVariants.{First, Between, Within, Over}
 use Rattle.program.specs.Program.{lines_of, end_text, cell_text, slot_text, slot_on, answer_text, line_text, line_after, slots_text}
-use Rattle.program.specs.Lent.{arrival_words, end_room, moved_words, Sizes, Inside, Blank}
+use Rattle.program.specs.Lent.{end_room, moved_words, Sizes, Inside, Blank}
 use Rattle.program.specs.Coming.{state_of, line_words, line_of, line_end, line_from, Stand, stand, coming_by, coming, on_byte, on_newline, on_words, Turns, Goes}
-use Rattle.program.specs.Bytes.{opening_byte, line_bytes_lem, line_end_lem, between}
+use Rattle.program.specs.Bytes.{opening_byte, line_bytes_lem, line_end_lem}
 
 -- the slots --------------------------------------------------------------------------------------
 
@@ -212,27 +212,3 @@ goes_line most x table arrivals r r' front back piece out from next at z l t = r
 
     onward : LineState → List ℕ → List ℕ
     onward y input = line_from (state_of x table) y (lines_of input)
-
--- a line begins with its first byte
-pub goes_begins : {most from next at at' : ℕ} {piece table arrivals out out' : List ℕ} {s : Stand} (x : Running) → Sizes x
-    → length arrivals ≡ arrival_words → from < length piece → Goes most piece (stand (Within x reader_start) table arrivals) from out at s next out' at'
-    → Goes most piece (stand (Between x) table arrivals) from out at s next out' at'
-unfolding coming_by
-goes_begins {from = from} {piece = piece} {table = table} {arrivals = arrivals} x z l h g = record {
-  text = g.text;
-  put = g.put;
-  comes = λ more.
-      ap (λ (m : List ℕ). slots_text (state_of x table) (lines_of (m ++ more))) first
-      ∙ between (state_of x table) words (get_or piece from 0) (drop (from + 1) piece ++ more) (length-take-le (line_words x) arrivals (omega (arith, z.ports)))
-      ∙ sym (ap (λ (m : List ℕ). line_from (state_of x table) (line_state_of reader_start words) (lines_of (m ++ more))) first)
-      ∙ g.comes more;
-  inside = g.inside;
-  order = g.order;
-  end = g.end;
-}
-  where
-    words : List ℕ
-    words = take (line_words x) arrivals
-
-    first : drop from piece ≡ get_or piece from 0 ∷ drop (from + 1) piece
-    first = drop_next piece from (get_or piece from 0) h refl

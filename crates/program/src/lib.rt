@@ -159,6 +159,7 @@ impl Program {
     }
 
     // The end of the input: bytes after the last newline are an unreadable line, and so is a missing first line.
+    #[tactic(auto, using(printing::specs::Prints::put_none, printing::specs::Prints::put_within), unfolding(crate::specs::Coming::closing))]
     pub fn finish(self, table: &[u32], out: &mut [u8], at: usize) -> usize
         requires inside { Inside self }
         requires room { Room table.now out.old at }
@@ -229,6 +230,7 @@ fn begin(
     }
 }
 
+#[tactic(auto, unfolding(crate::specs::Lent::lent_words))]
 fn lent_words(records: u32) -> usize
     ensures { result ≡ lent_words records }
 {
@@ -284,6 +286,7 @@ impl Running {
     }
 
     // A slot line's newline.
+    #[tactic(auto, using(crate::specs::Turns::turns_unread))]
     fn end_line(
         self,
         reader: SlotReader,
@@ -367,6 +370,7 @@ impl Running {
         self.put_held(table, out, next)
     }
 
+    #[tactic(auto, unfolding(crate::specs::Program::held_text))]
     fn put_held(self, table: &[u32], out: &mut [u8], at: usize) -> usize
         requires words { (self.words ≤ length table.now) × (length table.now ≤ lent_table_words) }
         requires room { at + line_bytes ≤ length out.old }
@@ -379,6 +383,7 @@ impl Running {
 }
 
 // What a slot prints: the cells that it emitted, or that it was refused.
+#[tactic(auto, using(printing::specs::Prints::put_within), unfolding(crate::specs::Program::answer_text))]
 fn put_outcome(answer: Answer, numbers: Switch, exhaled: &[u32], out: &mut [u8], at: usize) -> usize
     requires entries { (numbers.ports ≤ most_ports) × (numbers.ports * exhaled_width ≤ length exhaled.now) }
     requires room { at + end_room ≤ length out.old }
@@ -406,6 +411,7 @@ fn put_cells(out: &mut [u8], at: usize, slot: u32, ports: u32, exhaled: &[u32]) 
 }
 
 // What one output emitted, if it did: an entry says that in its first word.
+#[tactic(auto, using(printing::specs::Prints::put_none), unfolding(crate::specs::Program::cell_text, laws::specs::Pieces::part))]
 fn put_output(out: &mut [u8], at: usize, slot: u32, output: u32, exhaled: &[u32]) -> usize
     requires entry { output * exhaled_width + exhaled_width ≤ length exhaled.now }
     requires room { at + line_bytes ≤ length out.old }

@@ -12,7 +12,8 @@ use Rattle.laws.specs.Tests.{No, passes, refuted, both, join, deny, denied, cond
 use Rattle.laws.specs.Walk.{below_suc}
 use Rattle.laws.specs.Order.{ranks_on}
 use Rattle.laws.specs.Least.{Below}
-use Rattle.laws.specs.First.{First, first_found, first_join, first-least, first_alike, first_below}
+use Rattle.laws.specs.First.{First, first_found, first_alike, first_below}
+use Rattle.laws.proofs.First.{first_join, first-least}
 use Rattle.laws.specs.declared.Found.{Found}
 use Rattle.laws.specs.declared.Found.TheVariants.{At, Nothing}
 use Rattle.rules.specs.declared.Input.{Input}

@@ -12,7 +12,8 @@ use Rattle.std.proofs.Math.ListN.{get_or, set, length-set}
 use Rattle.std.proofs.Math.Seq.{get_or-set_same, get_or-set_other}
 use Rattle.std.proofs.lemmas.List.{set-get_or}
 use Rattle.laws.specs.Tests.{No, passes, fails_right, same_test}
-use Rattle.laws.specs.Least.{least_below, least-same, Below, below_wider}
+use Rattle.laws.specs.Least.{least_below, Below, below_wider}
+use Rattle.laws.proofs.Least.{least-same}
 use Rattle.laws.specs.declared.Found.{Found}
 use Rattle.laws.specs.declared.Found.TheVariants.{At, Nothing}
 use Rattle.ports.specs.Ports.{has, with_port, except_ports}

@@ -68,7 +68,9 @@ pub fn wanted_outputs(queues: &[u16]) -> u16
     queues[WANTED]
 }
 
-// Another head, or none, for a pair.
+// Another head, or none, for a pair. One word is the head, one the set of inputs with this one added, or taken out where there is no head, one the set
+// of outputs.
+#[tactic(auto, unfolding(crate::specs::Queues::head_set))]
 fn set_head(queues: &mut [u16], i: Input, o: Output, found: Found)
     requires queues_len { length queues.old ≡ queue_words }
     requires ports { Ports i o }
@@ -90,6 +92,7 @@ fn set_head(queues: &mut [u16], i: Input, o: Output, found: Found)
 }
 
 // Record k becomes the top of the chain of pair p.
+#[tactic(auto, unfolding(crate::specs::Queues::linked))]
 fn link(queues: &mut [u16], p: usize, k: usize)
     requires queues_len { length queues.old ≡ queue_words }
     requires p_lt_pairs { p < pairs }

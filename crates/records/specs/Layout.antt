@@ -9,7 +9,8 @@ use Rattle.laws.specs.Lists.{sets_inside}
 use Rattle.laws.specs.declared.Found.{Found}
 use Rattle.rules.specs.declared.Cell.{Cell}
 use Rattle.rules.specs.Cells.{most_records, width, records, nth, fields, cells_of, words_of}
-use Rattle.words.specs.Words.{length-words_of, words_of-at, cells_of-words_of, store_with}
+use Rattle.words.specs.Words.{length-words_of, words_of-at}
+use Rattle.words.proofs.Words.{cells_of-words_of, store_with}
 use Rattle.table.specs.Table.{stored}
 use Rattle.records.specs.Records.{finding_of, most_words, answered, words_to_lay, Laid}
 use Rattle.records.specs.declared.Finding.TheVariants.{TooMany}

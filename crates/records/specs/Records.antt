@@ -8,7 +8,7 @@ use Rattle.rules.specs.declared.Output.{Output}
 use Rattle.rules.specs.declared.Cell.{Cell}
 use Rattle.rules.specs.Cells.{most_records, width, is_whole, cells_of, words_of}
 use Rattle.rules.specs.Phases.{lowest_free, oldest_ready}
-use Rattle.words.specs.Words.{cells_of-words_of, words_of-cells_of}
+use Rattle.words.proofs.Words.{cells_of-words_of, words_of-cells_of}
 use Rattle.records.specs.declared.Finding.{Finding}
 use Rattle.records.specs.declared.Finding.TheVariants.{At, Nothing, TooMany}
 

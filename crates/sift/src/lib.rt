@@ -44,6 +44,7 @@ pub fn one_if_any(x: u32) -> usize
 }
 
 // What the places of the block of records from k on have of `bits`, all in one.
+#[tactic(auto, unfolding(rules::specs::Cells::records))]
 fn any_of_block(table: &[u32], k: usize, bits: u32) -> u32
     requires { k + block ≤ records table.now }
     ensures { result ≡ 0 → (j : ℕ) → j < block → Lacks table.now k bits j }
@@ -58,12 +59,13 @@ fn any_of_block(table: &[u32], k: usize, bits: u32) -> u32
 }
 
 // Lists the blocks in which some place has one of `bits`, of so many from record k on.
+#[tactic(auto, unfolding(rules::specs::Cells::records))]
 fn sift_blocks(table: &[u32], k: usize, count: usize, bits: u32, blocks: &mut [u8; BLOCKS]) -> usize
     requires block_bound { k + count * block ≤ records table.now }
     requires count_le_block_count { count ≤ block_count }
     requires blocks_len { length blocks.old ≡ block_count }
     ensures sifted { Sifted (BlockLacks table.now k bits) blocks.new result count }
-    ensures blocks_len_2 { length blocks.new ≡ block_count }
+    ensures blocks_len_kept { length blocks.new ≡ block_count }
 {
     let mut found = 0;
     let mut b = 0;
@@ -76,6 +78,7 @@ fn sift_blocks(table: &[u32], k: usize, count: usize, bits: u32, blocks: &mut [u
 }
 
 // Lists the records with one of `bits` from number `from` to number `to` of the stretch, behind those below.
+#[tactic(auto, unfolding(rules::specs::Cells::records))]
 fn sift_between(
     table: &[u32],
     k: usize,

@@ -12,10 +12,12 @@ use Rattle.rules.specs.Phases.{exhaled as exhaled_of}
 use Rattle.rules.specs.Phases.{matches as matches_of}
 use Rattle.rules.specs.Answers.{Lists}
 use Rattle.rules.specs.Calls.{Started, fresh_start, Outcome, entered, transferred, slot_runs, slot}
-use Rattle.words.specs.Words.{length-cells_of, with_records, with_whole, with_long, with_cells, with_then}
+use Rattle.words.specs.Words.{length-cells_of, with_records}
+use Rattle.words.proofs.Words.{with_whole, with_long, with_cells, with_then}
 use Rattle.ideal.specs.Phases.{length-phases}
 use Rattle.ideal.specs.Exhale.{length-exhale}
-use Rattle.ideal.specs.Calls.{Accepted, entered-fit}
+use Rattle.ideal.specs.Calls.{Accepted}
+use Rattle.ideal.proofs.Calls.{entered-fit}
 use Rattle.ideal.specs.InPorts.{in_ports_fit}
 use Rattle.matching.specs.Ready.{Orderly}
 use Rattle.buffers.specs.Inhale.{length-inhale}

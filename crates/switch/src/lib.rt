@@ -25,6 +25,7 @@ pub struct Outcome {
 
 impl Crossbar {
     // Starts afresh with the numbers' N and S: next slot 0, every record free. Refused with 1, 2 or 3, and then nothing changes.
+    #[tactic(auto, using(crate::proofs::Outcomes::start_stays, crate::proofs::Outcomes::start_goes))]
     pub fn fresh_start(self, table: &mut [u32]) -> Outcome
         ensures { record { answer = result.answer; numbers = result.crossbar.numbers; table = table.new }
             ≡ fresh_start self.numbers table.old }
@@ -48,6 +49,7 @@ impl Crossbar {
     }
 
     // Runs one slot: inhale, transfer phases, exhale. Refused with a number from 1 to 8, and then nothing changes.
+    #[tactic(auto, using(crate::proofs::Outcomes::slot_stays, crate::proofs::Outcomes::clock_goes, crate::proofs::Outcomes::slot_goes))]
     pub fn slot(
         self,
         table: &mut [u32],

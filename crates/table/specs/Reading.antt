@@ -15,7 +15,7 @@ use Rattle.std.proofs.lemmas.List.{set-get_or}
 use borrow.Author.Tests.{eqb-true, eqb-false, eq-eqb, ne_eqb, ltb-true, ltb-false}
 use Rattle.laws.specs.Tests.{No, both, passes, to_no}
 use Rattle.laws.specs.Count.{bit, count, count_zero, count_suc, count_le}
-use Rattle.laws.specs.Lists.{tabulate, length-tabulate, get_d_tabulate, tabulate-same, tabulate-get_or, set-tabulate}
+use Rattle.laws.specs.Lists.{tabulate, length-tabulate, get_or-tabulate, tabulate-same, tabulate-get_or, set-tabulate}
 use Rattle.laws.specs.Least.{sooner, least, least_more, sooner_skip}
 use Rattle.laws.specs.Bits.{and_none}
 use Rattle.laws.specs.declared.Found.{Found}
@@ -96,7 +96,7 @@ readings_below cs k = tabulate most_ports (ready_below cs k)
 module _ (cs : List Cell) where
   at_output : (k o : ℕ) → o < most_ports → get_or (readings_below cs k) o 0 ≡ ready_below cs k o
   unfolding readings_below
-  at_output k o l = get_d_tabulate (ready_below cs k) most_ports 0 o l
+  at_output k o l = get_or-tabulate (ready_below cs k) most_ports 0 o l
 
   length-readings : (k : ℕ) → length (readings_below cs k) ≡ most_ports
   unfolding readings_below

@@ -6,12 +6,14 @@ use Rattle.std.proofs.Math.Bool.{So}
 use Rattle.std.proofs.Math.ListN.{length}
 use Rattle.laws.specs.Tests.{No}
 use Rattle.laws.specs.Walk.{below_suc}
-use Rattle.laws.specs.Least.{lowest_nothing, lowest_hit}
+use Rattle.laws.specs.Least.{lowest_hit}
+use Rattle.laws.proofs.Least.{lowest_nothing}
 use Rattle.laws.specs.declared.Found.TheVariants.{At, Nothing}
 use Rattle.rules.specs.declared.Cell.{Cell}
 use Rattle.rules.specs.Cells.{nth, is_free, is_live, records, cells_of, older}
 use Rattle.rules.specs.Phases.{lowest_free}
-use Rattle.words.specs.Words.{length-cells_of, same-records, with_records, length_with, cells_of_with}
+use Rattle.words.specs.Words.{length-cells_of, same-records, with_records, length_with}
+use Rattle.words.proofs.Words.{cells_of_with}
 
 -- the words with c as record k
 abbrev pub stored : List ℕ → ℕ → Cell → List ℕ

@@ -17,6 +17,7 @@ use laws::Found;
 use rules::{Cell, Input, Output, Slot};
 
 // How many whole records the words are.
+#[tactic(auto, unfolding(rules::specs::Cells::records))]
 pub fn record_count(table: &[u32]) -> usize
     ensures { result ≡ records table.now }
 {
@@ -24,6 +25,7 @@ pub fn record_count(table: &[u32]) -> usize
 }
 
 // Whether the words are whole records.
+#[tactic(auto, unfolding(rules::specs::Cells::is_whole))]
 pub fn is_whole(table: &[u32]) -> bool
     ensures { result ≡ is_whole table.now }
 {
@@ -42,6 +44,7 @@ pub fn clear(words: &mut [u32])
 }
 
 // Record k.
+#[tactic(auto, unfolding(rules::specs::Cells::records))]
 pub fn cell_at(table: &[u32], k: usize) -> Cell
     requires { k < records table.now }
     ensures { result ≡ nth (cells_of table.now) k }
@@ -62,6 +65,7 @@ pub fn cell_at(table: &[u32], k: usize) -> Cell
 }
 
 // Record k becomes the cell c.
+#[tactic(auto, unfolding(rules::specs::Cells::records))]
 pub fn put_cell(table: &mut [u32], k: usize, c: Cell)
     requires { k < records table.old }
     ensures { table.new ≡ stored table.old k c }
@@ -75,6 +79,7 @@ pub fn put_cell(table: &mut [u32], k: usize, c: Cell)
 }
 
 // Record k gets another place; its other fields stay.
+#[tactic(auto, unfolding(rules::specs::Cells::records))]
 pub fn set_place(table: &mut [u32], k: usize, place: u32)
     requires { k < records table.old }
     ensures { table.new ≡ stored table.old k (placed place (nth (cells_of table.old) k)) }
@@ -140,6 +145,7 @@ pub fn older_finding(table: &[u32], a: Found, b: Found) -> Found
 }
 
 // Whether c is in the unit of output o.
+#[tactic(auto, unfolding(rules::specs::Cells::is_ready_for, rules::specs::Cells::is_ready, rules::specs::Cells::same_output))]
 fn is_ready_for(c: Cell, o: Output) -> bool
     ensures { result ≡ is_ready_for o c }
 {
@@ -240,6 +246,7 @@ pub struct Reading {
 }
 
 // 1 for a cell that is ready for some output, otherwise 0.
+#[tactic(auto, unfolding(crate::specs::Reading::is_counted, rules::specs::Cells::is_ready))]
 fn one_if_counted(c: Cell) -> u32
     ensures { result ≡ bit (is_counted c) }
 {

@@ -19,21 +19,21 @@ use Rattle.text.specs.declared.Arrival.TheVariants.{Words, NoArrival}
 use Rattle.text.specs.declared.FirstLine.{FirstLine}
 use Rattle.text.specs.declared.FirstLine.TheVariants.{Numbers, Unreadable}
 use Rattle.characters.specs.Characters.{space, value}
-use Rattle.text.specs.Lines.{prepended, cut, line_fields, is_number, three, first_line, field_arrival, is_read, field_words, is_slot_line, slot_line_words}
+use Rattle.text.specs.Lines.{prepended, cut, line_fields, is_number, three, field_arrival, is_read, field_words, is_slot_line, slot_line_words}
 use Rattle.text.specs.Steps.{number_step, value_of, field_step, LineState, line_state, slot_start, written, end_field, slot_step, is_complete, Finished}
-use Rattle.text.specs.Steps.{first, first_start, one_more, first_step, three_of, first_answer}
+use Rattle.text.specs.Steps.{first, one_more, first_step, three_of, first_answer}
 use Rattle.text.specs.Numbers.{number_is, number_value}
 use Rattle.text.specs.Fields.{cut_some, broken_stays, field_law}
 
 -- the first line ------------------------------------------------------------------------------
 
 -- what the fields that are left come to
-abbrev after : ℕ → Number → Number → Number → List (List ℕ) → FirstLine
+abbrev pub after : ℕ → Number → Number → Number → List (List ℕ) → FirstLine
 after k n s r [] = Unreadable
 after k n s r (f ∷ []) = first_answer (first k n s (fold number_step r f))
 after k n s r (f ∷ (g ∷ gs)) = after (one_more k) s (fold number_step r f) Empty (g ∷ gs)
 
-first_steps : (k : ℕ) (n s r : Number) (line : List ℕ) → first_answer (fold first_step (first k n s r) line) ≡ after k n s r (cut space line)
+pub first_steps : (k : ℕ) (n s r : Number) (line : List ℕ) → first_answer (fold first_step (first k n s r) line) ≡ after k n s r (cut space line)
 unfolding fold cut first_step
 first_steps k n s r [] = refl
 first_steps k n s r (b ∷ line) =
@@ -50,13 +50,13 @@ first_steps k n s r (b ∷ line) =
     go false (p ∷ (q ∷ qs)) i x y = y
 
 -- a fourth field is one too many
-too_many : (n s r : Number) (fs : List (List ℕ)) → after 3 n s r fs ≡ Unreadable
+pub too_many : (n s r : Number) (fs : List (List ℕ)) → after 3 n s r fs ≡ Unreadable
 unfolding first_answer
 too_many n s r [] = refl
 too_many n s r (f ∷ []) = refl
 too_many n s r (f ∷ (g ∷ gs)) = too_many s (fold number_step r f) Empty (g ∷ gs)
 
-three_is : (n s k : List ℕ) → three_of (fold number_step Empty n) (fold number_step Empty s) (fold number_step Empty k) ≡ three (n ∷ (s ∷ (k ∷ [])))
+pub three_is : (n s k : List ℕ) → three_of (fold number_step Empty n) (fold number_step Empty s) (fold number_step Empty k) ≡ three (n ∷ (s ∷ (k ∷ [])))
 unfolding three_of
 three_is n s k = rw (number_is n, number_is s, number_is k) (go (is_number n) refl (is_number s) refl (is_number k) refl)
   where
@@ -67,19 +67,6 @@ three_is n s k = rw (number_is n, number_is s, number_is k) (go (is_number n) re
     go true h true i false j = refl
     go true h false i c j = refl
     go false h b i c j = refl
-
-after_is : (fs : List (List ℕ)) → after 0 Empty Empty Empty fs ≡ three fs
-unfolding first_answer
-after_is [] = refl
-after_is (n ∷ []) = refl
-after_is (n ∷ (s ∷ [])) = refl
-after_is (n ∷ (s ∷ (k ∷ []))) = three_is n s k
-after_is (n ∷ (s ∷ (k ∷ (x ∷ xs)))) = too_many _ _ Empty (x ∷ xs)
-
--- THE LAW of a first line
-pub first_law : (line : List ℕ) → first_answer (fold first_step first_start line) ≡ first_line line
-unfolding first_line
-first_law line = first_steps 0 Empty Empty Empty line ∙ after_is (line_fields line)
 
 -- a slot line ---------------------------------------------------------------------------------
 

@@ -106,6 +106,7 @@ impl FirstReader {
     }
 
     // One byte of the line, and no newline. Where a field ends, the earlier ones move up.
+    #[tactic(auto, using(std::proofs::lemmas::Bool::Decides::nat_tests), unfolding(crate::specs::Steps::first_step))]
     pub fn step(self, byte: u8) -> FirstReader
         ensures { result ≡ first_step self byte }
     {
@@ -129,6 +130,7 @@ impl FirstReader {
         }
     }
 
+    #[tactic(auto, using(std::proofs::lemmas::Bool::Decides::nat_tests), unfolding(crate::specs::Steps::first_answer, crate::specs::Steps::three_of))]
     pub fn finish(self) -> FirstLine
         ensures { result ≡ first_answer self }
     {
@@ -184,6 +186,7 @@ impl SlotReader {
     }
 
     // The line's end. Whether it was read; if so, every word of the list is the line's.
+    #[tactic(auto, using(std::proofs::lemmas::Bool::Decides::nat_tests), unfolding(crate::specs::Steps::is_complete))]
     pub fn finish(self, words: &mut [u32]) -> bool
         ensures { Finished (line_state_of self words.old) result words.new }
     {
@@ -209,6 +212,7 @@ impl SlotReader {
         }
     }
 
+    #[tactic(auto, using(std::proofs::lemmas::Bool::Decides::nat_tests), unfolding(crate::specs::Steps::end_field, crate::specs::Steps::written))]
     fn end_field(self, words: &mut [u32]) -> SlotReader
         ensures { line_state_of result words.new ≡ end_field (line_state_of self words.old) }
     {
@@ -274,6 +278,7 @@ impl Number {
 }
 
 // The sum is made in 64 bits, where it cannot wrap; a number that is too large is none, however many digits follow.
+#[tactic(auto, using(std::proofs::lemmas::Bool::Decides::nat_tests), unfolding(crate::specs::Steps::grown, characters::specs::Characters::is_digit, characters::specs::Characters::push))]
 fn grown(value: u32, byte: u8) -> Number
     ensures { result ≡ grown value byte }
 {
@@ -291,6 +296,7 @@ fn grown(value: u32, byte: u8) -> Number
 }
 
 // A number that has no digit yet is not zero.
+#[tactic(auto, using(crate::specs::Parts::taken_none, crate::specs::Parts::empty_taken))]
 fn read_empty(piece: &[u8], from: usize, stop: u8) -> NumberPart
     requires from { from ≤ length piece.now }
     requires stop { No (is_digit stop) }
@@ -344,6 +350,7 @@ fn read_digits(value: u32, piece: &[u8], from: usize) -> Digits
 }
 
 // The first byte from `from` on that is `stop` or ends a field, or the piece's end.
+#[tactic(auto, using(crate::specs::Parts::span_none, crate::specs::Parts::span_more))]
 fn skip(piece: &[u8], from: usize, stop: u8) -> usize
     requires { from ≤ length piece.now }
     ensures { Upto (ends stop) piece.now from result }
@@ -355,6 +362,7 @@ fn skip(piece: &[u8], from: usize, stop: u8) -> usize
     next
 }
 
+#[tactic(auto, using(std::proofs::lemmas::Bool::Decides::nat_tests), unfolding(crate::specs::Parts::ends))]
 fn ends(byte: u8, stop: u8) -> bool
     ensures { result ≡ ends stop byte }
 {
@@ -400,6 +408,7 @@ impl Field {
 }
 
 // A field that has no byte yet stays so.
+#[tactic(auto, using(crate::specs::Parts::taken_none, crate::specs::Parts::start_output))]
 fn read_start(piece: &[u8], from: usize) -> FieldPart
     requires { from ≤ length piece.now }
     ensures { FieldTaken piece.now Start from result.field result.next }
@@ -417,6 +426,7 @@ fn read_start(piece: &[u8], from: usize) -> FieldPart
     part
 }
 
+#[tactic(auto, unfolding(characters::specs::Characters::is_digit))]
 fn read_output(number: Number, piece: &[u8], from: usize) -> FieldPart
     requires { from ≤ length piece.now }
     ensures { FieldTaken piece.now (Output number) from result.field result.next }
@@ -447,6 +457,7 @@ fn read_colon(number: Number, piece: &[u8], from: usize) -> FieldPart
     read_tag(output + 1, Number::Empty, piece, from + 1)
 }
 
+#[tactic(auto, unfolding(characters::specs::Characters::is_digit))]
 fn read_tag(word: u32, number: Number, piece: &[u8], from: usize) -> FieldPart
     requires { from ≤ length piece.now }
     ensures { FieldTaken piece.now (Tag word number) from result.field result.next }
@@ -460,6 +471,7 @@ fn read_tag(word: u32, number: Number, piece: &[u8], from: usize) -> FieldPart
 }
 
 // Nothing stands behind a `-`.
+#[tactic(auto, using(crate::specs::Parts::taken_none))]
 fn read_dash(piece: &[u8], from: usize) -> FieldPart
     requires { from ≤ length piece.now }
     ensures { FieldTaken piece.now Dash from result.field result.next }
@@ -474,6 +486,7 @@ fn read_dash(piece: &[u8], from: usize) -> FieldPart
     part
 }
 
+#[tactic(auto, using(crate::specs::Parts::broken_taken))]
 fn read_broken(piece: &[u8], from: usize) -> FieldPart
     requires { from ≤ length piece.now }
     ensures { FieldTaken piece.now NoField from result.field result.next }
@@ -484,6 +497,7 @@ fn read_broken(piece: &[u8], from: usize) -> FieldPart
     }
 }
 
+#[tactic(auto, using(std::proofs::lemmas::Bool::Decides::nat_tests), unfolding(crate::specs::Steps::tag_end))]
 fn tag_end(word: u32, number: Number) -> Arrival
     ensures { result ≡ tag_end word number }
 {

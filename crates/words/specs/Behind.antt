@@ -1,6 +1,6 @@
 -- The fields of a record behind its place, which are 0 in a free one. `is_blank` names each of them, and this is the one law that looks inside it.
 -- Assumes nothing.
-use Rattle.std.specs.Prelude.{ℕ, zero, suc, ◌-◌, ◌<◌, ◌≡◌, List, eqb, get_or, drop}
+use Rattle.std.specs.Prelude.{ℕ, suc, ◌-◌, ◌<◌, ◌≡◌, List, eqb, get_or, drop}
 use Rattle.std.proofs.Math.Path.{refl}
 use Rattle.std.proofs.Common.{sym, ◌∙◌, arith, eqb-true, eq-eqb}
 use Rattle.std.proofs.Math.Bool.{So}
@@ -8,7 +8,7 @@ use Rattle.laws.specs.Walk.{over}
 use Rattle.laws.specs.Count.{every, every→, →every}
 use Rattle.rules.specs.declared.Cell.{Cell}
 use Rattle.rules.specs.Cells.{free, is_blank, width, fields}
-use Rattle.words.specs.Words.{cell_ext, free-field}
+use Rattle.words.specs.Words.{free-field}
 
 abbrev pub behind : Cell → List ℕ
 behind c = drop 1 (fields c)
@@ -23,14 +23,6 @@ module _ (c : Cell) where
 
   pub →blank : ((r : ℕ) → r < width - 1 → ◌≡◌ {A = ℕ} (get_or (behind c) r 0) 0) → So (is_blank c)
   →blank h = blank-each ∙ →every _ (width - 1) (λ r l. eq-eqb (get_or (behind c) r 0) 0 (h r l))
-
-  -- a blank record with place 0 is the free one
-  pub blank-free : ◌≡◌ {A = ℕ} c.place 0 → So (is_blank c) → c ≡ free
-  blank-free e h = cell_ext c free (λ r l. each r l ∙ sym (free-field r l))
-    where
-      each : (r : ℕ) → r < width → ◌≡◌ {A = ℕ} (get_or (fields c) r 0) 0
-      each zero l = e
-      each (suc r) l = blank→ h r (omega arith)
 
 -- and the free one is blank
 pub free-blank : So (is_blank free)

@@ -9,7 +9,7 @@ use borrow.Author.Tests.{eqb-true, ltb-true, lt-ltb}
 use Rattle.laws.specs.Tests.{No, passes, both, join, cond_true, cond_false, eqb_self}
 use Rattle.laws.specs.Order.{strict_on}
 use Rattle.laws.specs.Least.{Least, least_is, is_at}
-use Rattle.laws.specs.Lists.{length-tabulate, get_d_tabulate}
+use Rattle.laws.specs.Lists.{length-tabulate, get_or-tabulate}
 use Rattle.laws.specs.declared.Found.{Found}
 use Rattle.laws.specs.declared.Found.TheVariants.{At, Nothing}
 use Rattle.rules.specs.declared.Output.{Output}
@@ -76,7 +76,7 @@ module _ (n : ℕ) (cs : List Cell) where
 
   pub nth-exhale : (k : ℕ) → k < length cs → nth (exhale n cs) k ≡ cond (is_emitted n cs k) free (nth cs k)
   unfolding exhale
-  nth-exhale k l = get_d_tabulate (λ k. cond (is_emitted n cs k) free (nth cs k)) (length cs) free k l
+  nth-exhale k l = get_or-tabulate (λ k. cond (is_emitted n cs k) free (nth cs k)) (length cs) free k l
 
   pub exhale_freed : (k : ℕ) → k < length cs → So (is_emitted n cs k) → nth (exhale n cs) k ≡ free
   exhale_freed k l x = nth-exhale k l ∙ cond_true (is_emitted n cs k) free (nth cs k) x

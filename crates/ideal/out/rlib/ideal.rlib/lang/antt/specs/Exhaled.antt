@@ -1,27 +1,21 @@
 -- The exhaled list: an output's four words are those of the record that it emits, and as many outputs show a cell as records are emitted.
 -- Assumes nothing.
-use Rattle.std.specs.Prelude.{◌≡◌, refl, List, ℕ, ◌+◌, ◌*◌, ◌<◌, ltb, length}
+use Rattle.std.specs.Prelude.{◌≡◌, refl, List, ℕ, ◌+◌, ◌*◌, ◌<◌, length}
 use Rattle.std.proofs.Math.Path.{sym, ap}
-use Rattle.std.proofs.Common.{subst, ◌∙◌, arith, add-zero}
+use Rattle.std.proofs.Common.{◌∙◌, arith, add-zero}
 use Rattle.std.proofs.Math.Bool.{So}
 use Rattle.std.proofs.Math.ListN.{get_or}
 use borrow.Author.Tests.{eqb-true, eq-eqb}
-use Rattle.laws.specs.Tests.{both}
-use Rattle.laws.specs.Count.{count, count_into}
-use Rattle.laws.specs.Least.{is_at→, count_onto}
 use Rattle.laws.specs.Lists.{get_or-blocks}
 use Rattle.laws.specs.declared.Found.{Found}
 use Rattle.laws.specs.declared.Found.TheVariants.{At, Nothing}
-use Rattle.rules.specs.declared.Slot.{Slot}
 use Rattle.rules.specs.declared.Cell.{Cell}
 use Rattle.rules.specs.Cells.{output_of, nth}
 use Rattle.rules.specs.Answers.{exhaled_width}
 use Rattle.rules.specs.Phases.{oldest_ready, is_emitted, emitted_words, exhaled}
 use Rattle.rules.specs.Demands.{emits, emitted}
 use Rattle.ideal.specs.Cells.{same-cell, ready_for→}
-use Rattle.ideal.specs.Fit.{Fit}
-use Rattle.ideal.specs.Exhale.{OldestReady, oldest_is, emitted→, found-emitted}
-use Rattle.ideal.specs.Meets.{one_each}
+use Rattle.ideal.specs.Exhale.{OldestReady, oldest_is, found-emitted}
 
 -- an entry has as many words whether a cell is emitted or none
 pub length-emitted : (cs : List Cell) (x : Found) → length (emitted_words cs x) ≡ exhaled_width
@@ -41,7 +35,7 @@ module _ (n : ℕ) (cs : List Cell) where
   first_word o l = ap (λ (i : ℕ). get_or (exhaled n cs) i 0) (sym (add-zero (o * exhaled_width))) ∙ word_at o 0 l (omega arith)
 
   -- an output that finds record k shows its cell
-  shows : (o k : ℕ) → o < n → oldest_ready cs (output_of o) ≡ At k → OldestReady cs (output_of o) (At k)
+  pub shows : (o k : ℕ) → o < n → oldest_ready cs (output_of o) ≡ At k → OldestReady cs (output_of o) (At k)
       → So (emits (exhaled n cs) o) × (emitted (exhaled n cs) o ≡ nth cs k)
   unfolding emits emitted
   shows o k l e s =
@@ -59,13 +53,6 @@ module _ (n : ℕ) (cs : List Cell) where
   silent o l e h =
       omega (arith, eqb-true (get_or (exhaled n cs) (o * exhaled_width) 0) 1 h, first_word o l, ap (λ (x : Found). get_or (emitted_words cs x) 0 0) e)
 
-  -- an emitted record is shown at its output
-  pub shown : (k : ℕ) → So (is_emitted n cs k) → So (emits (exhaled n cs) (nth cs k).output.0) × (emitted (exhaled n cs) (nth cs k).output.0 ≡ nth cs k)
-  unfolding is_emitted
-  shown k h =
-      let e = is_at→ k _ (both (ltb (nth cs k).output.0 n) _ h).1 in
-      shows (nth cs k).output.0 k (emitted→ n cs k h).output e (subst (OldestReady cs (nth cs k).output) e (oldest_is cs (nth cs k).output))
-
   -- and what an output shows is a record that it emits
   pub shown→ : (o : ℕ) → o < n → So (emits (exhaled n cs) o)
       → (k : ℕ) × (k < length cs) × So (is_emitted n cs k) × ((nth cs k).output.0 ≡ o) × (emitted (exhaled n cs) o ≡ nth cs k)
@@ -75,16 +62,3 @@ module _ (n : ℕ) (cs : List Cell) where
           → (k : ℕ) × (k < length cs) × So (is_emitted n cs k) × ((nth cs k).output.0 ≡ o) × (emitted (exhaled n cs) o ≡ nth cs k)
       go Nothing e s = absurd (silent o l e h)
       go (At k) e s = (k, s.0, found-emitted n cs (output_of o) k l e s, (ready_for→ (output_of o) (nth cs k) s.1).1, (shows o k l e s).1)
-
--- as many outputs show a cell as records are emitted
-pub emitted-count : {n : ℕ} {t : Slot} {cs : List Cell} → Fit n t cs → count (emits (exhaled n cs)) n ≡ count (is_emitted n cs) (length cs)
-emitted-count {n} {t} {cs} f =
-    omega (
-      arith,
-      count_into (is_emitted n cs) output n (length cs) (emits (exhaled n cs))
-          (λ k l x. ((emitted→ n cs k x).output, (shown n cs k x).0)) (λ j k hj hk x y e. one_each f j k x y e),
-      count_onto (is_emitted n cs) output (length cs) (emits (exhaled n cs)) n (λ o l x. let k = shown→ n cs o l x in (k.0, k.1, k.2, k.3)),
-    )
-  where
-    output : ℕ → ℕ
-    output k = (nth cs k).output.0

@@ -9,7 +9,8 @@ use mathlib.Core.List.{List}
 use Rattle.laws.specs.Tests.{No, passes, refuted, denied, cond_true, cond_false}
 use Rattle.laws.specs.Walk.{over_ind}
 use Rattle.laws.specs.Count.{bit, count, count_zero, count_suc, count_all, count_extra, count_more, count_either, count_one, count_prefix, count_le}
-use Rattle.laws.specs.Least.{Least, lowest_is}
+use Rattle.laws.specs.Least.{Least}
+use Rattle.laws.proofs.Least.{lowest_is}
 use Rattle.laws.specs.Lists.{set_cases}
 use Rattle.laws.specs.Order.{pred_below}
 use Rattle.laws.specs.declared.Found.{Found}
@@ -189,10 +190,10 @@ inhaled_was {cs = cs} h k l w =
 -- The table stays fit, for the next slot, where every first word names an output
 module _ {n : ℕ} {t : Slot} {arrivals : List ℕ} {cs us : List Cell} (h : Inhaled t arrivals n cs us) (f : Fit n t cs)
     (known : (i : ℕ) → i < n → first_word arrivals i ≤ n) where
-  old_sound : (c : Cell) → Sound n t c → Sound n (slot_of (suc t.0)) c
+  pub old_sound : (c : Cell) → Sound n t c → Sound n (slot_of (suc t.0)) c
   old_sound c s = record { place = s.place; blank = s.blank; input = s.input; output = s.output; entered = λ w. omega (arith, s.entered w) }
 
-  arrival_sound : (j : ℕ) → j < n → So (arrives arrivals j) → Sound n (slot_of (suc t.0)) (arrival t arrivals j)
+  pub arrival_sound : (j : ℕ) → j < n → So (arrives arrivals j) → Sound n (slot_of (suc t.0)) (arrival t arrivals j)
   arrival_sound j l x =
       record {
         place = omega arith;
@@ -202,17 +203,10 @@ module _ {n : ℕ} {t : Slot} {arrivals : List ℕ} {cs us : List Cell} (h : Inh
         entered = λ w. omega arith;
       }
 
-  each_sound : (k : ℕ) → k < length cs → Sound n (slot_of (suc t.0)) (nth us k)
-  each_sound k l =
-      ⊎_elim
-      (λ z. ⊎_elim (λ y. rw y (old_sound (nth cs k) (f.each k l))) (λ y. rw y.3 (arrival_sound y.0 y.1 y.2)) (h.new k l z))
-      (λ w. rw (h.old k l w) (old_sound (nth cs k) (f.each k l)))
-      (eq-zero-or-pos (nth cs k).place)
-
   early : (k : ℕ) → k < length cs → 1 ≤ (nth cs k).place → nth us k ≡ nth cs k → (nth us k).entered.0 < t.0
   early k l w e = rw e ((f.each k l).entered w)
 
-  still_apart : (j k : ℕ) → j < length cs → k < length cs → 1 ≤ (nth us j).place → 1 ≤ (nth us k).place
+  pub still_apart : (j k : ℕ) → j < length cs → k < length cs → 1 ≤ (nth us j).place → 1 ≤ (nth us k).place
       → (nth us j).entered.0 ≡ (nth us k).entered.0 → (nth us j).input.0 ≡ (nth us k).input.0 → j ≡ k
   still_apart j k hj hk wj wk e i = go (inhaled_was h j hj wj) (inhaled_was h k hk wk)
     where
@@ -225,12 +219,6 @@ module _ {n : ℕ} {t : Slot} {arrivals : List ℕ} {cs us : List Cell} (h : Inh
       go (inr x) (inl y) = absurd (omega (arith, early k hk y.0 y.1, x.1))
       go (inr x) (inr y) = h.once j k hj hk x.0 y.0 wj wk i
 
-  pub inhaled-fit : Fit n (slot_of (suc t.0)) us
-  inhaled-fit = record {
-    each = λ k l. each_sound k (omega (arith, h.long));
-    apart = λ j k mj mk. still_apart j k (omega (arith, h.long)) (omega (arith, h.long));
-  }
-
 -- A slot that is accepted has room for every arriving cell: each gets a record, so none is lost.
 module _ (n : ℕ) (t : Slot) (arrivals : List ℕ) (cs : List Cell) (room : live cs + arriving n arrivals ≤ length cs) where
   pub inhale_is : Inhaled t arrivals n cs (inhale n t arrivals cs)
@@ -239,10 +227,3 @@ module _ (n : ℕ) (t : Slot) (arrivals : List ℕ) (cs : List Cell) (room : liv
       over_ind (enter t arrivals) cs (λ i us. Inhaled t arrivals i cs us) inhaled-none n
       (λ i l us h. inhaled-enter h (λ x.
       omega (arith, h.total, h.long, count_suc (arrives arrivals) i, ap bit x, count_prefix (arrives arrivals) (suc i) n l)))
-
-  pub inhale_total : live (inhale n t arrivals cs) ≡ live cs + arriving n arrivals
-  unfolding arriving
-  inhale_total = inhale_is.total
-
-  pub inhale-fit : Fit n t cs → ((i : ℕ) → i < n → first_word arrivals i ≤ n) → Fit n (slot_of (suc t.0)) (inhale n t arrivals cs)
-  inhale-fit = inhaled-fit inhale_is

@@ -16,8 +16,9 @@ use Rattle.laws.specs.Walk.{over_ind}
 use Rattle.laws.specs.Count.{count, count_same, count_more, count_le, count-full, count_into, any, →any, any_both→, →any_both}
 use Rattle.laws.specs.Order.{strict_on}
 use Rattle.laws.specs.Choice.{Choice, choice_unique}
-use Rattle.laws.specs.Least.{Least, least_is, least_at, lowest, lowest_is, count_onto}
-use Rattle.laws.specs.Lists.{get_d_tabulate}
+use Rattle.laws.specs.Least.{Least, least_is, lowest}
+use Rattle.laws.proofs.Least.{least_at, lowest_is, count_onto}
+use Rattle.laws.specs.Lists.{get_or-tabulate}
 use Rattle.laws.specs.declared.Found.{Found}
 use Rattle.laws.specs.declared.Found.TheVariants.{At, Nothing}
 use Rattle.rules.specs.declared.Input.{Input}
@@ -289,7 +290,7 @@ module _ {n : ℕ} {t : Slot} {cs : List Cell} (f : Fit n t cs) {r : List ℕ} {
   -- The match words: 1 + the input of the cell that moves to the output, or 0
   word_at : (o : ℕ) → o < n → get_or (match_words n m cs) o 0 ≡ served_word cs (server o)
   unfolding match_words server
-  word_at o l = get_d_tabulate (λ o. served_word cs (lowest (λ k. m k && same_output (nth cs k).output (output_of o)) (length cs))) n 0 o l
+  word_at o l = get_or-tabulate (λ o. served_word cs (lowest (λ k. m k && same_output (nth cs k).output (output_of o)) (length cs))) n 0 o l
 
   pub match_word : (k : ℕ) → k < length cs → So (m k) → get_or (match_words n m cs) (nth cs k).output.0 0 ≡ suc (nth cs k).input.0
   unfolding server same_output

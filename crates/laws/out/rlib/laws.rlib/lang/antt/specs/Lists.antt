@@ -25,12 +25,12 @@ module _ {A : Type 0} (f : ℕ → A) where
   length-tabulate zero = refl
   length-tabulate (suc n) = let h = length-tabulate n in simp length-append (omega arith)
 
-  pub get_d_tabulate : (n : ℕ) (d : A) (k : ℕ) → k < n → get_or (tabulate n f) k d ≡ f k
+  pub get_or-tabulate : (n : ℕ) (d : A) (k : ℕ) → k < n → get_or (tabulate n f) k d ≡ f k
   unfolding tabulate over
-  get_d_tabulate zero d k l = absurd (omega arith)
-  get_d_tabulate (suc n) d k l =
+  get_or-tabulate zero d k l = absurd (omega arith)
+  get_or-tabulate (suc n) d k l =
       below_suc (λ (i : ℕ). get_or (tabulate n f ++ (f n ∷ [])) i d ≡ f i) n
-      (λ i m. get_or-append (tabulate n f) (f n ∷ []) d i (let h = length-tabulate n in omega arith) ∙ get_d_tabulate n d i m)
+      (λ i m. get_or-append (tabulate n f) (f n ∷ []) d i (let h = length-tabulate n in omega arith) ∙ get_or-tabulate n d i m)
       (get_or_at (tabulate n f) (f n) [] d n (length-tabulate n))
       k
       l
@@ -38,12 +38,12 @@ module _ {A : Type 0} (f : ℕ → A) where
 pub tabulate-same : {A : Type 0} (d : A) (f g : ℕ → A) (n : ℕ) → ((k : ℕ) → k < n → f k ≡ g k) → tabulate n f ≡ tabulate n g
 tabulate-same d f g n h =
     ext_get_or d (tabulate n f) (tabulate n g) (length-tabulate f n ∙ sym (length-tabulate g n))
-    (λ i l. let m : i < n = rw (length-tabulate f n) at l in get_d_tabulate f n d i m ∙ h i m ∙ sym (get_d_tabulate g n d i m))
+    (λ i l. let m : i < n = rw (length-tabulate f n) at l in get_or-tabulate f n d i m ∙ h i m ∙ sym (get_or-tabulate g n d i m))
 
 pub tabulate-get_or : {A : Type 0} (d : A) (l : List A) → tabulate (length l) (λ k. get_or l k d) ≡ l
 tabulate-get_or d l =
     ext_get_or d (tabulate (length l) (λ k. get_or l k d)) l (length-tabulate _ _)
-    (λ i h. get_d_tabulate _ _ d i (rw (length-tabulate (λ k. get_or l k d) (length l)) at h))
+    (λ i h. get_or-tabulate _ _ d i (rw (length-tabulate (λ k. get_or l k d) (length l)) at h))
 
 -- f 0, then f 1, .. , then f (n-1)
 unfoldable pub blocks : ℕ → (ℕ → List ℕ) → List ℕ
@@ -83,7 +83,7 @@ set-tabulate {A} d l k x =
     (length-set l k x ∙ sym (length-tabulate _ _))
     (λ i h.
     let m : i < length l = rw (length-set l k x) at h in
-    go i m (eqb i k) refl ∙ sym (get_d_tabulate (λ j. cond (eqb j k) x (get_or l j d)) (length l) d i m))
+    go i m (eqb i k) refl ∙ sym (get_or-tabulate (λ j. cond (eqb j k) x (get_or l j d)) (length l) d i m))
   where
     go : (i : ℕ) → i < length l → (b : Bool) → eqb i k ≡ b → get_or (set l k x) i d ≡ cond b x (get_or l i d)
     go i m true e = let q : i ≡ k = eqb-true i k e in rw q (get_or-set_same l k x d (rw q at m))

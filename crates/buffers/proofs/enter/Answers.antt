@@ -1,0 +1,26 @@
+-- No cell arrives, there is no room, or the cell takes the record found.
+use Rattle.std.proofs.Common.{sym, arith}
+use Rattle.std.proofs.Math.Numerals.{sub-one}
+use Rattle.rules.specs.Cells.{records}
+use Rattle.rules.specs.Answers.{first_word, tag_word}
+use Rattle.buffers.specs.Inhale.{none-arrives, no_room, room_inside, takes_room}
+use Rattle.buffers.proofs.enter.Goals as goal
+
+pub returns-then-word-eq0 : goal.returns-then-word-eq0
+unfolding first_word
+returns-then-word-eq0 c = none-arrives _ _ _ _ c.requires.none_below c.if-word-eq0.true
+
+pub returns-in_default : goal.returns-in_default
+unfolding first_word
+returns-in_default c = no_room _ _ _ _ c.requires.none_below c.if-word-eq0.false (sym c.in_default.ensures)
+
+pub put_cell-requires : goal.put_cell-requires
+put_cell-requires c = room_inside _ _ (sym c.in-At.ensures)
+
+pub overflow_add-result : goal.overflow_add-result
+unfolding records
+overflow_add-result c = omega (arith, room_inside _ _ (sym c.in-At.ensures))
+
+pub returns : goal.returns
+unfolding first_word tag_word
+returns c = takes_room _ _ _ _ _ (sym c.in-At.ensures) _ c.if-word-eq0.false (rw sub-one at c.put_cell.ensures)

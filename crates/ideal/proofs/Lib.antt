@@ -1,0 +1,6 @@
+pub mod Inhale
+pub mod Calls
+pub mod Exhaled
+pub mod Meets
+pub mod Totals
+pub mod RunTotals

@@ -1,0 +1,20 @@
+-- Each part is what the call for it says, of the cell that was read.
+use Rattle.std.proofs.Common.{ap, set}
+use Rattle.rules.specs.declared.Cell.{Cell}
+use Rattle.ports.specs.PortLaws.{added}
+use Rattle.matching.specs.Ready.{taken_stale, taken_queues}
+use Rattle.matching.proofs.take.Goals as goal
+
+pub renew-requires : goal.renew-requires
+renew-requires c = taken_stale c.requires c.cell_at-c.ensures c.set_place.ensures
+
+pub returns : goal.returns
+returns c =
+    let e = c.cell_at-c.ensures in
+    record {
+      table = c.set_place.ensures;
+      queues = taken_queues c.requires e c.set_place.ensures c.renew.ensures;
+      inputs = rw (← e) (added c.with.ensures);
+      outputs = rw (← e) (added c.with-2.ensures);
+      served = ap (λ (d : Cell). set c.args.served.now d.output.0 d.input.0) e;
+    }
