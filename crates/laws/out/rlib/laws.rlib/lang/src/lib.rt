@@ -1,1 +1,0 @@
-# [ derive ( Clone , Copy ) ] pub enum Found { At ( usize ) , Nothing , }
