@@ -1,4 +1,4 @@
-//! Finds the proved library, libexports.a: in the repository's target/staticlib, or in the folder that
+//! Finds the proved library, libexports.a: in the repository's crates/exports/out, or in the folder that
 //! TREIKWATER_LIBRARY names.
 
 use std::env;
@@ -8,7 +8,7 @@ const PLACE: &str = "TREIKWATER_LIBRARY";
 
 fn folder() -> PathBuf {
     env::var_os(PLACE).map_or_else(
-        || Path::new(env!("CARGO_MANIFEST_DIR")).join("../../target/staticlib"),
+        || Path::new(env!("CARGO_MANIFEST_DIR")).join("../../crates/exports/out"),
         PathBuf::from,
     )
 }
@@ -20,7 +20,7 @@ fn main() {
     println!("cargo:rerun-if-changed={}", library.display());
     assert!(
         library.exists(),
-        "there is no libexports.a: make it by `rt staticlib exports`, or set {PLACE} to its folder"
+        "there is no libexports.a: make it by `rt lib` in crates/exports, or set {PLACE} to its folder"
     );
     println!("cargo:rustc-link-search=native={}", folder.display());
     println!("cargo:rustc-link-lib=static=exports");

@@ -4,50 +4,65 @@
 
 ghost use Rattle.program.specs.Lent.{Inside, Room, Lent, PieceLent};
 
-use libc::{STDIN_FILENO, STDOUT_FILENO};
 use program::Program;
+use std::io::{Read, Write};
 
-fn main() {
-    let mut piece = io::large_buffer();
-    let mut out = io::large_buffer();
+// How many bytes a read takes, at most, and how many are written at a time.
+const PIECE_BYTES: usize = 65536;
+
+fn main(rt: HostRuntime) {
+    let mut piece = [0u8; PIECE_BYTES];
+    let mut out = [0u8; PIECE_BYTES];
     let mut table = [0u32; program::TABLE_WORDS];
     let mut arrivals = [0u32; program::LINE_WORDS];
-    run(&mut piece, &mut out, &mut table, &mut arrivals);
+    run(
+        &mut rt.stdin(),
+        &mut rt.stdout(),
+        &mut piece,
+        &mut out,
+        &mut table,
+        &mut arrivals,
+    );
 }
 
-// A failed read ends the input as its end would. A proved loop has to end, and nothing says that the input does: so the turns are counted down,
-// from a number that no run uses up.
-fn run(piece: &mut [u8], out: &mut [u8], table: &mut [u32], arrivals: &mut [u32])
+// A failed read ends the input as its end would. A proved loop has to end, and nothing says that the input does: so the turns are counted, to a
+// number that no run uses up.
+fn run<R: Read, W: Write>(
+    input: &mut R,
+    output: &mut W,
+    piece: &mut [u8],
+    out: &mut [u8],
+    table: &mut [u32],
+    arrivals: &mut [u32],
+)
     requires { Lent table.old arrivals.old out.old 0 }
 {
     let mut program = Program::start();
-    let mut turns = u64::MAX;
-    while turns > 0 {
-        let got = libc::read(STDIN_FILENO, piece);
-        let n = io::count(got, piece);
+    for _ in 0..u64::MAX {
+        let n = input.read(piece).unwrap_or(0);
         if n == 0 {
-            end(program, table, out);
+            end(output, program, table, out);
             return;
         }
-        program = take(program, &piece[..n], out, table, arrivals);
+        program = take(output, program, &piece[..n], out, table, arrivals);
         if program.is_over() {
             return;
         }
-        turns -= 1;
     }
 }
 
 // The end of the input: the last lines.
-fn end(program: Program, table: &[u32], out: &mut [u8])
+fn end<W: Write>(output: &mut W, program: Program, table: &[u32], out: &mut [u8])
     requires inside { Inside program }
     requires room { Room table.now out.old 0 }
 {
     let at = program.finish(table, out, 0);
-    io::write_all(STDOUT_FILENO, &out[..at]);
+    let _ = output.write_all(&out[..at]);
 }
 
 // Takes a piece of the input, and writes the buffer out where it is full and at the piece's end. A failed write ends the run.
-fn take(
+fn take<W: Write>(
+    output: &mut W,
     start: Program,
     piece: &[u8],
     out: &mut [u8],
@@ -63,7 +78,7 @@ fn take(
         let pass = program.pass(piece, next, table, arrivals, out);
         let turn = pass.turn;
         let at = turn.at;
-        if !io::write_all(STDOUT_FILENO, &out[..at]) {
+        if output.write_all(&out[..at]).is_err() {
             return Program::Over;
         }
         program = turn.program;
