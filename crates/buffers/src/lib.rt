@@ -18,7 +18,7 @@ use rules::{Cell, Input, Output, Slot};
 // Gives a record from which the next one may look. Without room the table stays; such a slot is refused before.
 fn enter(table: &mut [u32], arrivals: &[u32], i: Input, t: Slot, from: usize) -> usize
     requires none_below { NoneBelow table.old from }
-    requires arrival_width_in_bounds { i.0 * arrival_width + arrival_width ≤ length arrivals.now }
+    requires arrival_in_bounds { i.0 * arrival_width + arrival_width ≤ length arrivals.now }
     ensures { Entered t arrivals.now i table.old table.new result }
 {
     let at = (i.0 as usize) * rules::ARRIVAL_WORDS;

@@ -1,5 +1,5 @@
 -- When a cell leaves. A cell is due in slot s while, before slot t, it is held with s - t others before it; after slot s it is gone. An inhale
--- and a phase keep that, and an exhale shows the cell exactly when it is due.
+-- and a phase keep that, and an exhale shows the cell exactly when it is due (proofs/Due.antt).
 -- Assumes nothing.
 use Rattle.std.specs.Prelude.{◌≡◌, ◌⊎◌, List, ℕ, suc, ◌+◌, ◌≤◌, ◌<◌, length}
 use Rattle.std.proofs.Common.{sym, subst, ap, ◌∙◌, inl, inr, ⊎_elim, arith, eq-zero-or-pos}

@@ -1,5 +1,5 @@
 -- A transfer phase: at most one cell moves to an output, and each waiting cell that is left has a moved one before it. It gains 1 of the
--- invariant's slack.
+-- invariant's slack (proofs/Phase.antt).
 -- Assumes nothing.
 use Rattle.std.specs.Prelude.{◌≡◌, ◌⊎◌, ◌&&◌, eqb}
 use Rattle.std.proofs.Math.Path.{refl, ap}

@@ -1,4 +1,5 @@
--- What an accepted call says of its input and leaves: a fit table for the next slot, by the published model; and what a refused one leaves.
+-- What an accepted call says of its input and leaves, and what a refused one leaves. That an accepted slot leaves a fit table for the next slot, by
+-- the published model, stands in proofs/Calls.antt.
 -- Assumes nothing.
 use Rattle.std.specs.Prelude.{◌≡◌, not, List, ℕ, ◌+◌, ◌*◌, ◌≤◌, ◌<◌, eqb, length}
 use Rattle.std.proofs.Math.Path.{refl}

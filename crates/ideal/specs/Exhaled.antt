@@ -1,4 +1,5 @@
--- The exhaled list: an output's four words are those of the record that it emits, and as many outputs show a cell as records are emitted.
+-- The exhaled list: an output's four words are those of the record that it emits. That as many outputs show a cell as records are emitted stands in
+-- proofs/Exhaled.antt.
 -- Assumes nothing.
 use Rattle.std.specs.Prelude.{◌≡◌, refl, List, ℕ, ◌+◌, ◌*◌, ◌<◌, length}
 use Rattle.std.proofs.Math.Path.{sym, ap}

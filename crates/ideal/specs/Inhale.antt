@@ -1,4 +1,5 @@
--- The inhale: what stood there stays, each arriving cell takes a free record of its own, and the table stays fit.
+-- The inhale: what stood there stays, and each arriving cell takes a free record of its own. That the table stays fit, and that none is lost,
+-- stands in proofs/Inhale.antt.
 -- Assumes nothing.
 use Rattle.std.specs.Prelude.{◌≡◌, refl, ◌⊎◌, true, ℕ, suc, ◌+◌, ◌≤◌, ◌<◌, eqb, ltb, length, set}
 use Rattle.std.proofs.Common.{sym, ◌∙◌, inl, inr, arith, eq-zero-or-pos, eq-or-lt_of_le, length-set, get_or-set_same, eqb-true, eq-eqb}

@@ -1,4 +1,4 @@
--- The rules meet the published model's conditions, phase by phase.
+-- The rules meet the published model's conditions, phase by phase; the exhale in proofs/Meets.antt.
 -- Assumes nothing.
 use Rattle.std.specs.Prelude.{◌≡◌, ◌⊎◌, Bool, not, ◌&&◌, ◌||◌, List, ℕ, ◌≤◌, ◌<◌, length}
 use Rattle.std.proofs.Common.{sym, ◌∙◌, inl, ⊎_elim, arith, eq-zero-or-pos, eqb-true, eq-eqb}

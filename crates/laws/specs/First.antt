@@ -1,5 +1,5 @@
 -- The first of the numbers below n that pass a test: it stands before each other one, or ties with it and is the lower. `least` finds it, number by
--- number; here it is found from parts, in any order: the first of a whole is the first of the firsts of its parts.
+-- number; here it is found from parts, in any order: the first of a whole is the first of the firsts of its parts (proofs/First.antt).
 -- Assumes nothing.
 use Rattle.std.specs.Prelude.{◌≡◌, ◌⊎◌, Bool, true, false, cond, ℕ, suc, ◌≤◌, ◌<◌, ltb}
 use Rattle.std.proofs.Math.Path.{refl}

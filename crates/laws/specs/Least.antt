@@ -1,4 +1,4 @@
--- Of the numbers below n that pass a test, the one that stands before the others.
+-- Of the numbers below n that pass a test, the one that stands before the others. What follows from its laws stands in proofs/Least.antt.
 -- Assumes nothing.
 use Rattle.std.specs.Prelude.{◌≡◌, Bool, true, false, cond, ℕ, zero, suc, ◌+◌, ◌-◌, ◌≤◌, ◌<◌, ltb, eqb}
 use Rattle.std.proofs.Math.Path.{refl}

@@ -1,4 +1,5 @@
--- How many digits a number has between two powers of ten, each power written out.
+-- How many digits a number has between two powers of ten: `decimal-count`, at each power that a u32 reaches. The powers are written out, since what
+-- compares a number with a literal is matched with these by their words, and a set of rules takes names alone.
 -- Assumes nothing.
 use Rattle.std.proofs.Common.{ℕ, ◌≤◌, ◌<◌, ◌≡◌, length, ap}
 use Rattle.printing.specs.Printed.{decimal}

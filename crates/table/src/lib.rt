@@ -123,8 +123,8 @@ fn is_older(a: Cell, b: Cell) -> bool
 
 // Of two findings the one with the older cell; the lower-numbered where neither is older.
 pub fn older_finding(table: &[u32], a: Found, b: Found) -> Found
-    requires below { Below (records table.now) a }
-    requires below_2 { Below (records table.now) b }
+    requires a_below { Below (records table.now) a }
+    requires b_below { Below (records table.now) b }
     ensures { result ≡ first_found (older_at (cells_of table.now)) a b }
 {
     let Found::At(j) = a else {
@@ -262,7 +262,7 @@ fn one_if_counted(c: Cell) -> u32
 // One more for the cell's output, where the cell is ready.
 fn bump(counts: &mut [u32; rules::PORT_COUNT], c: Cell)
     requires counts_len { length counts.old ≡ most_ports }
-    requires most_ports_bound { get_or counts.old (c.output.0 % most_ports) 0 < most_records }
+    requires count_bound { get_or counts.old (c.output.0 % most_ports) 0 < most_records }
     ensures { counts.new ≡ bumped counts.old c }
 {
     let at = (c.output.0 % rules::MOST_PORTS) as usize;

@@ -1,5 +1,5 @@
 -- The law of the readers: from a line's start, a step for each byte, and the line's end come to what the line says as a whole.
--- The steps over a line are its fields taken in turn; then by induction on the fields.
+-- The steps over a line are its fields taken in turn; then by induction on the fields. Of a first line the law itself stands in proofs/Reading.antt.
 -- Assumes nothing.
 use Rattle.std.specs.Prelude.{ℕ, suc, ◌+◌, ◌*◌, ◌≤◌, ◌<◌, ◌≡◌, refl, Bool, true, false, cond, ◌&&◌, leb, eqb, length, take, drop}
 use Rattle.std.proofs.Common.{sym, ap, ◌∙◌, arith, length-append, length-take-le, take_at, take_all, leb-true, leb-false, eqb-true, eq-eqb, ne_eqb}

@@ -1,6 +1,6 @@
 // The lines of an arrival list: the first one read one byte at a time, a slot's field by field from the pieces that it comes in. No line and no
 // field has a longest length, and nothing is kept but the state here. What a line means is said of the whole line in specs/Lines.antt;
-// specs/Reading.antt has the law that a step a byte comes to that, and specs/Parts.antt those by which many bytes are read at once.
+// specs/Reading.antt and proofs/Reading.antt have the laws that a step a byte comes to that, and specs/Parts.antt those by which many bytes are read at once.
 #![tactic(auto)]
 
 ghost use Rattle.std.specs.Prelude.{◌≤◌, ◌<◌, ◌≡◌, length, get_or};

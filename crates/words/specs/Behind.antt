@@ -1,4 +1,5 @@
--- The fields of a record behind its place, which are 0 in a free one. `is_blank` names each of them, and this is the one law that looks inside it.
+-- The fields of a record behind its place, which are 0 in a free one. `is_blank` names each of them, and the laws here and in
+-- proofs/Behind.antt are the only ones that look inside it.
 -- Assumes nothing.
 use Rattle.std.specs.Prelude.{ℕ, suc, ◌-◌, ◌<◌, ◌≡◌, List, eqb, get_or, drop}
 use Rattle.std.proofs.Math.Path.{refl}

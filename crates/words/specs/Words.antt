@@ -1,4 +1,5 @@
--- The table as flat words and as a list of records: each is known by the other, where the words are whole records.
+-- The table as flat words and as a list of records: where fields, records and words lie. That each is known by the other, and what a store
+-- makes of them, stands in proofs/Words.antt.
 -- Assumes nothing.
 use Prim.Native.Nat.{ℕ, zero, suc, ◌+◌, ◌*◌, ◌/◌, ◌%◌, ◌<◌, ◌≤◌}
 use Rattle.std.specs.Prelude.{◌≡◌, refl, Bool, true, false, eqb, get_or}
@@ -132,5 +133,3 @@ module _ (ws : List ℕ) (cs : List Cell) (e : length cs ≡ records ws) where
       ap (λ (l : List ℕ). words_of ds ++ l)
       (drop_at (words_of cs) (drop (length cs * width) ws) (length ds * width) (omega (arith, length-words_of cs, q))
       ∙ ap (λ (n : ℕ). drop (n * width) ws) (sym q))
-
--- Stores -------------------------------------------------------------------------------------------

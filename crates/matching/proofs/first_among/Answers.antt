@@ -16,12 +16,12 @@ without-left-requires c = let p = lowest_port c.lowest-o.ensures in (p.small, p.
 pub first_for-requires-clause-o_lt_most_ports : goal.first_for-requires-clause-o_lt_most_ports
 first_for-requires-clause-o_lt_most_ports c = (lowest_port c.lowest-o.ensures).small
 
-pub older_finding-found-requires-clause-below : goal.older_finding-found-requires-clause-below
-older_finding-found-requires-clause-below c =
+pub older_finding-found-requires-clause-a_below : goal.older_finding-found-requires-clause-a_below
+older_finding-found-requires-clause-a_below c =
     rw (length-cells_of c.args.table.now) at (walk_below _ _ (cells_of c.args.table.now) c.loop-left.invariant.holds)
 
-pub older_finding-found-requires-clause-below_2 : goal.older_finding-found-requires-clause-below_2
-older_finding-found-requires-clause-below_2 c =
+pub older_finding-found-requires-clause-b_below : goal.older_finding-found-requires-clause-b_below
+older_finding-found-requires-clause-b_below c =
     rw (c.first_for.ensures, ← length-cells_of c.args.table.now) (first_for_below _ _ (cells_of c.args.table.now))
 
 pub loop-left-smaller : goal.loop-left-smaller

@@ -17,12 +17,12 @@ pub head_of-requires-clause-ports : goal.head_of-requires-clause-ports
 head_of-requires-clause-ports c =
     record { input = (lowest_port c.lowest-i.ensures).small; output = c.requires.o_lt_most_ports }
 
-pub older_finding-found-requires-clause-below : goal.older_finding-found-requires-clause-below
-older_finding-found-requires-clause-below c =
+pub older_finding-found-requires-clause-a_below : goal.older_finding-found-requires-clause-a_below
+older_finding-found-requires-clause-a_below c =
     rw (length-cells_of c.args.table.now) at (walk_below _ _ (cells_of c.args.table.now) c.loop-left.invariant.holds)
 
-pub older_finding-found-requires-clause-below_2 : goal.older_finding-found-requires-clause-below_2
-older_finding-found-requires-clause-below_2 c =
+pub older_finding-found-requires-clause-b_below : goal.older_finding-found-requires-clause-b_below
+older_finding-found-requires-clause-b_below c =
     head_below_records c.requires.queues _ _ (lowest_port c.lowest-i.ensures).small c.requires.o_lt_most_ports
     (length-cells_of c.args.table.now) _ c.head_of.ensures
 

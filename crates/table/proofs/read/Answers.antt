@@ -16,8 +16,8 @@ cell_at-c-requires c = (pass_turn c.sifted.invariant counted_keeps c.sifted-test
 pub bump-requires-clause-counts_len : goal.bump-requires-clause-counts_len
 bump-requires-clause-counts_len c = counted_long (pass_turn c.sifted.invariant counted_keeps c.sifted-test.true).below
 
-pub bump-requires-clause-most_ports_bound : goal.bump-requires-clause-most_ports_bound
-bump-requires-clause-most_ports_bound c =
+pub bump-requires-clause-count_bound : goal.bump-requires-clause-count_bound
+bump-requires-clause-count_bound c =
     let t = pass_turn c.sifted.invariant counted_keeps c.sifted-test.true in
     omega (arith, counted_le t.below (c.cell_at-c.result.output.0 % most_ports), t.inside)
 
