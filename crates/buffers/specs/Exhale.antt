@@ -1,7 +1,7 @@
 -- One output's emission, and that the outputs one after the other come to the rules' exhale, where all emit at once.
 -- Assumes nothing.
 use Prim.Native.Nat.{ℕ, ◌+◌, ◌*◌, ◌<◌, ◌≤◌}
-use Rattle.std.specs.Prelude.{◌≡◌, refl, Bool, cond, ◌&&◌, ◌||◌, List, [], ◌∷◌, ltb, length, take, drop}
+use Rattle.std.specs.Prelude.{◌≡◌, refl, Bool, cond, ◌&&◌, ◌||◌, List, [], ◌∷◌, ltb, length, take, drop, Option, Some, None}
 use Rattle.std.proofs.Common.{sym, ◌∙◌, subst, ⊎_elim, arith, ext_get_or, ltb-true, ltb-false, lt-ltb, le-ltb}
 use Rattle.std.proofs.Math.Path.{ap, ap₂}
 use Rattle.std.proofs.Math.Bool.{So, true, false}
@@ -11,8 +11,6 @@ use Rattle.laws.specs.Tests.{both, join, either, on_left, on_right, passes, same
 use Rattle.laws.specs.Least.{is_at, is_at→}
 use Rattle.laws.proofs.Least.{least_at, least_alike}
 use Rattle.laws.specs.Lists.{tabulate-same, tabulate-get_or, blocks_zero, blocks_next}
-use Rattle.laws.specs.declared.Found.{Found}
-use Rattle.laws.specs.declared.Found.TheVariants.{At, Nothing}
 use Rattle.rules.specs.declared.Cell.{Cell}
 use Rattle.rules.specs.declared.Output.{Output}
 use Rattle.rules.specs.Cells.{output_of, free, nth, records, cells_of, is_ready, is_ready_for, older}
@@ -28,26 +26,26 @@ use Rattle.buffers.specs.Stores.{length-store_at, nth-store_at}
 
 -- the words of an entry: a mark, and what the rules show of a cell behind it
 abbrev pub entry_of : ℕ → Cell → List ℕ
-entry_of mark c = mark ∷ drop 1 (emitted_words (c ∷ []) (At 0))
+entry_of mark c = mark ∷ drop 1 (emitted_words (c ∷ []) (Some 0))
 
 -- the words ws of the table and l of the list become vs and m when output o emits
 pub record Emitted (o : Output) (ws l vs m : List ℕ) : Type 0 where
   pub table : vs ≡ with_records ws (store_at (oldest_ready (cells_of ws) o) free (cells_of ws))
   pub list : m ≡ sets l (o.0 * exhaled_width) (emitted_words (cells_of ws) (oldest_ready (cells_of ws) o))
 
-found-ready : (cs : List Cell) (o : Output) (k : ℕ) → oldest_ready cs o ≡ At k → (k < length cs) × So (is_ready_for o (nth cs k))
+found-ready : (cs : List Cell) (o : Output) (k : ℕ) → oldest_ready cs o ≡ Some k → (k < length cs) × So (is_ready_for o (nth cs k))
 unfolding oldest_ready
 found-ready cs o k e = least_at _ _ (length cs) k e
 
-pub found_inside : (ws : List ℕ) (o : Output) (k : ℕ) → oldest_ready (cells_of ws) o ≡ At k → k < records ws
+pub found_inside : (ws : List ℕ) (o : Output) (k : ℕ) → oldest_ready (cells_of ws) o ≡ Some k → k < records ws
 found_inside ws o k f = rw (length-cells_of ws) at (found-ready (cells_of ws) o k f).0
 
 -- what the code does for output o: nothing found, or record k
 module _ {o : Output} {ws l m : List ℕ} where
-  pub emits_nothing : oldest_ready (cells_of ws) o ≡ Nothing → m ≡ sets l (o.0 * exhaled_width) (entry_of 0 free) → Emitted o ws l ws m
+  pub emits_nothing : oldest_ready (cells_of ws) o ≡ None → m ≡ sets l (o.0 * exhaled_width) (entry_of 0 free) → Emitted o ws l ws m
   emits_nothing f e = record { table = rw f (sym (with_own ws)); list = rw f e }
 
-  pub emits_record : {k : ℕ} {vs : List ℕ} → oldest_ready (cells_of ws) o ≡ At k → m ≡ sets l (o.0 * exhaled_width) (entry_of 1 (nth (cells_of ws) k))
+  pub emits_record : {k : ℕ} {vs : List ℕ} → oldest_ready (cells_of ws) o ≡ Some k → m ≡ sets l (o.0 * exhaled_width) (entry_of 1 (nth (cells_of ws) k))
       → vs ≡ stored ws k free → Emitted o ws l vs m
   emits_record f e s = record { table = rw f s; list = rw f e }
 
@@ -55,7 +53,7 @@ module _ {o : Output} {ws l m : List ℕ} where
 
 module _ (cs : List Cell) (o : ℕ) where
   -- what output o finds
-  abbrev found : Found
+  abbrev found : Option ℕ
   found = oldest_ready cs (output_of o)
 
   -- after the outputs below o, a record for output o is as it was
@@ -85,9 +83,9 @@ module _ (cs : List Cell) (o : ℕ) where
   words_same : emitted_words (exhale o cs) found ≡ emitted_words cs found
   words_same = go found refl
     where
-      go : (x : Found) → found ≡ x → emitted_words (exhale o cs) x ≡ emitted_words cs x
-      go (At k) e = let r = found-ready cs (output_of o) k e in ap (entry_of 1) (kept k r.0 r.1)
-      go Nothing e = refl
+      go : (x : Option ℕ) → found ≡ x → emitted_words (exhale o cs) x ≡ emitted_words cs x
+      go (Some k) e = let r = found-ready cs (output_of o) k e in ap (entry_of 1) (kept k r.0 r.1)
+      go None e = refl
 
   -- with output o, what it finds is emitted besides
   emitted_more : (j : ℕ) → is_emitted (o + 1) cs j ≡ is_at j found || is_emitted o cs j

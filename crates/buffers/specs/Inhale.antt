@@ -1,6 +1,6 @@
 -- One arrival, and where the next one may look for room.
 -- Assumes nothing.
-use Rattle.std.specs.Prelude.{ℕ, ◌+◌, ◌<◌, ◌≡◌, List, ltb, set}
+use Rattle.std.specs.Prelude.{ℕ, ◌+◌, ◌<◌, ◌≡◌, List, ltb, set, Some, None}
 use Rattle.std.proofs.Math.Path.{refl, ap}
 use Rattle.std.proofs.Common.{sym, ◌∙◌, arith, get_or-set_same, get_or-set_other, eq-eqb, ne_eqb, lt-ltb}
 use Rattle.std.proofs.Math.Logic.{⊎_elim}
@@ -10,7 +10,6 @@ use Rattle.laws.specs.Tests.{No, passes, refuted, to_no}
 use Rattle.laws.specs.Walk.{over_zero, over_more, over_ind, below_suc}
 use Rattle.laws.specs.Least.{Least}
 use Rattle.laws.proofs.Least.{lowest_is}
-use Rattle.laws.specs.declared.Found.TheVariants.{At, Nothing}
 use Rattle.rules.specs.declared.Cell.{Cell}
 use Rattle.rules.specs.declared.Input.{Input}
 use Rattle.rules.specs.declared.Slot.{Slot}
@@ -28,8 +27,8 @@ pub record Entered (t : Slot) (arrivals : List ℕ) (i : Input) (ws vs : List �
   pub below : NoneBelow vs next
 
 -- the lowest free record is k
-module _ (ws : List ℕ) (k : ℕ) (f : lowest_free (cells_of ws) ≡ At k) where
-  lowest-at : Least (λ j. is_free (nth (cells_of ws) j)) ltb (length (cells_of ws)) (At k)
+module _ (ws : List ℕ) (k : ℕ) (f : lowest_free (cells_of ws) ≡ Some k) where
+  lowest-at : Least (λ j. is_free (nth (cells_of ws) j)) ltb (length (cells_of ws)) (Some k)
   unfolding lowest_free
   lowest-at = rw f at (lowest_is (λ j. is_free (nth (cells_of ws) j)) (length (cells_of ws)))
 
@@ -43,12 +42,12 @@ module _ (t : Slot) (arrivals : List ℕ) (i : Input) (ws : List ℕ) where
   none-arrives b e = record { words = rw (eq-eqb _ _ e) (sym (with_own ws)); below = b }
 
   -- there is no room
-  pub no_room : {from : ℕ} → NoneBelow ws from → (first_word arrivals i.0 ≡ 0 → ⊥) → lowest_free (cells_of ws) ≡ Nothing → Entered t arrivals i ws ws from
+  pub no_room : {from : ℕ} → NoneBelow ws from → (first_word arrivals i.0 ≡ 0 → ⊥) → lowest_free (cells_of ws) ≡ None → Entered t arrivals i ws ws from
   unfolding enter arrives
   no_room b e f = record { words = rw (ne_eqb _ _ e, f) (sym (with_own ws)); below = b }
 
   -- the cell takes the lowest free record, k
-  module _ (k : ℕ) (f : lowest_free (cells_of ws) ≡ At k) where
+  module _ (k : ℕ) (f : lowest_free (cells_of ws) ≡ Some k) where
     -- the cell that arrives, and the records with it
     abbrev c : Cell
     c = arrival t arrivals i.0

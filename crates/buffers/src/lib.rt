@@ -11,7 +11,6 @@ ghost use Rattle.table.specs.Table.{NoneBelow};
 ghost use Rattle.buffers.specs.Inhale.{Entered};
 ghost use Rattle.buffers.specs.Exhale.{entry_of, Emitted};
 
-use laws::Found;
 use rules::{Cell, Input, Output, Slot};
 
 // The cell that arrives at input i, if one does, takes the lowest-numbered free record: one from `from` on, none below being free.
@@ -26,7 +25,7 @@ fn enter(table: &mut [u32], arrivals: &[u32], i: Input, t: Slot, from: usize) ->
     if word == 0 {
         return from;
     }
-    let Found::At(k) = table::next_free(table, from) else {
+    let Some(k) = table::next_free(table, from) else {
         return from;
     };
     let output = word - 1;
@@ -72,7 +71,7 @@ fn emit(table: &mut [u32], list: &mut [u32], o: Output)
     ensures { Emitted o table.old list.old table.new list.new }
 {
     let at = (o.0 as usize) * rules::EXHALED_WORDS;
-    let Found::At(k) = table::oldest_ready(table, o) else {
+    let Some(k) = table::oldest_ready(table, o) else {
         put_entry(list, at, 0, table::free_cell());
         return;
     };

@@ -5,9 +5,8 @@ use Rattle.std.proofs.Common.{sym, ap, ◌∙◌}
 use Rattle.std.proofs.Math.Bool.{So}
 use Rattle.std.proofs.lemmas.Bool.{not-true, not-false}
 use Rattle.laws.specs.Tests.{No}
-use Rattle.rules.specs.declared.Answer.{Answer}
 use Rattle.rules.specs.Cells.{most_records, is_whole, records}
-use Rattle.rules.specs.Answers.{is_done, outside}
+use Rattle.rules.specs.Answers.{Answer, is_done, outside}
 
 -- "the table has 0 or more than 1,024 records", or its words are no whole records
 unfoldable pub size_unfit : List ℕ → Bool

@@ -1,7 +1,7 @@
 -- What an accepted call says of its input and leaves, and what a refused one leaves. That an accepted slot leaves a fit table for the next slot, by
 -- the published model, stands in proofs/Calls.antt.
 -- Assumes nothing.
-use Rattle.std.specs.Prelude.{◌≡◌, not, List, ℕ, ◌+◌, ◌*◌, ◌≤◌, ◌<◌, eqb, length}
+use Rattle.std.specs.Prelude.{◌≡◌, not, List, ℕ, ◌+◌, ◌*◌, ◌≤◌, ◌<◌, eqb, length, Err}
 use Rattle.std.proofs.Math.Path.{refl}
 use Rattle.std.proofs.Common.{⊎_elim, arith, eq-zero-or-pos}
 use Rattle.std.proofs.Math.Bool.{So}
@@ -11,10 +11,9 @@ use Rattle.laws.specs.Tests.{No, both, neither, to_no, cond_true, cond_false}
 use Rattle.laws.specs.Count.{any, none→}
 use Rattle.rules.specs.declared.Cell.{Cell}
 use Rattle.rules.specs.declared.Switch.{Switch}
-use Rattle.rules.specs.declared.Answer.{Answer}
-use Rattle.rules.specs.declared.Answer.TheVariants.{Done, BadPorts, BadSpeedup, BadRecords, Unfit, BadLists, NoSuchOutput, ClockSpent, NoRoom}
+use Rattle.rules.specs.declared.Refusal.TheVariants.{BadPorts, BadSpeedup, BadRecords, Unfit, BadLists, NoSuchOutput, ClockSpent, NoRoom}
 use Rattle.rules.specs.Cells.{most_ports, most_speedup, most_records, last_slot, slot_of, is_whole, records, cells_of}
-use Rattle.rules.specs.Answers.{Lists, is_done, outside, arrival_width, exhaled_width, lengths_fit, first_word, arriving, live, first_of, fresh_answer, slot_answer}
+use Rattle.rules.specs.Answers.{Answer, done, Lists, is_done, outside, arrival_width, exhaled_width, lengths_fit, first_word, arriving, live, first_of, fresh_answer, slot_answer}
 use Rattle.rules.specs.Answers.{size_checks, table_checks, list_checks, arrival_checks, clock_checks, room_checks, fresh_checks, slot_checks}
 use Rattle.rules.specs.Phases.{readings, phases, exhale}
 use Rattle.rules.specs.Calls.{starts_fresh, start_refused, fresh_start, entered, transferred, slot_runs, slot_refused, slot}
@@ -56,10 +55,10 @@ module _ (w : Switch) (table : List ℕ) where
   unfolding refuses is_done holds_for same_answer
   sizes_passed h =
       let g = passed (size_checks w table) refl h in
-      let d = neither (not (is_whole table)) (outside (records table) most_records) (g BadRecords) in
+      let d = neither (not (is_whole table)) (outside (records table) most_records) (g (Err BadRecords)) in
       record {
-        ports = inside w.ports most_ports (g BadPorts);
-        speedup = inside w.speedup most_speedup (g BadSpeedup);
+        ports = inside w.ports most_ports (g (Err BadPorts));
+        speedup = inside w.speedup most_speedup (g (Err BadSpeedup));
         whole = not-false (is_whole table) d.0;
         size = inside (records table) most_records d.1;
       }
@@ -70,30 +69,30 @@ module _ (w : Switch) (table : List ℕ) where
 
   pub table_passed : So (is_done (first_of (table_checks w table))) → Fit w.ports w.next (cells_of table)
   unfolding refuses is_done holds_for same_answer
-  table_passed h = fit→ w.ports w.next (cells_of table) (not-false _ (passed (table_checks w table) refl h Unfit))
+  table_passed h = fit→ w.ports w.next (cells_of table) (not-false _ (passed (table_checks w table) refl h (Err Unfit)))
 
   pub room_passed : (arrivals : List ℕ) → So (is_done (first_of (room_checks w table arrivals)))
       → live (cells_of table) + arriving w.ports arrivals ≤ length (cells_of table)
   unfolding refuses is_done holds_for same_answer
-  room_passed arrivals h = rw (length-cells_of table) (ltb-false (records table) _ (passed (room_checks w table arrivals) refl h NoRoom))
+  room_passed arrivals h = rw (length-cells_of table) (ltb-false (records table) _ (passed (room_checks w table arrivals) refl h (Err NoRoom)))
 
 module _ (w : Switch) where
   pub lists_passed : (l : Lists) → So (is_done (first_of (list_checks w l))) → ListsFit w l
   unfolding refuses is_done holds_for same_answer lengths_fit
   lists_passed l h =
-      let x = both _ _ (not-false (lengths_fit w l) (passed (list_checks w l) refl h BadLists)) in
+      let x = both _ _ (not-false (lengths_fit w l) (passed (list_checks w l) refl h (Err BadLists))) in
       let y = both _ _ x.0 in
       record { arrivals = eqb-true _ _ y.0; matches = eqb-true _ _ y.1; exhaled = eqb-true _ _ x.1 }
 
   pub arrivals_passed : (arrivals : List ℕ) → So (is_done (first_of (arrival_checks w arrivals))) → Known w arrivals
   unfolding refuses is_done holds_for same_answer
   arrivals_passed arrivals h i m =
-      let n : No (any (λ i. ltb w.ports (first_word arrivals i)) w.ports) = passed (arrival_checks w arrivals) refl h NoSuchOutput in
+      let n : No (any (λ i. ltb w.ports (first_word arrivals i)) w.ports) = passed (arrival_checks w arrivals) refl h (Err NoSuchOutput) in
       ltb-false w.ports (first_word arrivals i) (to_no (λ x. none→ (λ i. ltb w.ports (first_word arrivals i)) w.ports n i m x))
 
   pub clock_passed : So (is_done (first_of (clock_checks w))) → w.next.0 ≡ last_slot → ⊥
   unfolding refuses is_done holds_for same_answer
-  clock_passed h = eqb-false w.next.0 last_slot (passed (clock_checks w) refl h ClockSpent)
+  clock_passed h = eqb-false w.next.0 last_slot (passed (clock_checks w) refl h (Err ClockSpent))
 
 -- An accepted slot passed every group
 pub record Accepted (w : Switch) (table : List ℕ) (l : Lists) : Type 0 where
@@ -132,7 +131,7 @@ module _ (w : Switch) (table : List ℕ) (l : Lists) where
   slot_refused_lem h = cond_false _ (slot_runs w table l.arrivals) (slot_refused (slot_answer w table l) w table l) h
 
   -- and where nothing is refused the answer is done itself
-  pub slot_is_done : {a : Answer} → a ≡ slot_answer w table l → So (is_done a) → a ≡ Done
+  pub slot_is_done : {a : Answer} → a ≡ slot_answer w table l → So (is_done a) → a ≡ done
   unfolding slot_answer refuses is_done
   slot_is_done = is_done_lem (slot_checks w table l) refl
 
@@ -145,7 +144,7 @@ module _ (w : Switch) (table : List ℕ) where
   unfolding fresh_start
   fresh_refused h = cond_false _ (starts_fresh w table) (start_refused (fresh_answer w table) w table) h
 
-  pub fresh_is_done : {a : Answer} → a ≡ fresh_answer w table → So (is_done a) → a ≡ Done
+  pub fresh_is_done : {a : Answer} → a ≡ fresh_answer w table → So (is_done a) → a ≡ done
   unfolding fresh_answer refuses is_done
   fresh_is_done = is_done_lem (fresh_checks w table) refl
 

@@ -1,6 +1,6 @@
 -- The exhale: each output with a ready cell emits one, the first by slot and then input; its record becomes free and the others stay.
 -- Assumes nothing.
-use Rattle.std.specs.Prelude.{◌≡◌, refl, ◌⊎◌, List, ℕ, ◌≤◌, ◌<◌, ltb, length}
+use Rattle.std.specs.Prelude.{◌≡◌, refl, ◌⊎◌, List, ℕ, ◌≤◌, ◌<◌, ltb, length, Option, Some, None}
 use Rattle.std.proofs.Math.Path.{ap}
 use Rattle.std.proofs.Common.{◌∙◌, inl, inr, ⊎_elim, arith, eq-zero-or-pos}
 use Rattle.std.proofs.Math.Bool.{So, cond}
@@ -10,8 +10,6 @@ use Rattle.laws.specs.Tests.{No, passes, both, join, cond_true, cond_false, eqb_
 use Rattle.laws.specs.Order.{strict_on}
 use Rattle.laws.specs.Least.{Least, least_is, is_at}
 use Rattle.laws.specs.Lists.{length-tabulate, get_or-tabulate}
-use Rattle.laws.specs.declared.Found.{Found}
-use Rattle.laws.specs.declared.Found.TheVariants.{At, Nothing}
 use Rattle.rules.specs.declared.Output.{Output}
 use Rattle.rules.specs.declared.Slot.{Slot}
 use Rattle.rules.specs.declared.Cell.{Cell}
@@ -21,7 +19,7 @@ use Rattle.ideal.specs.Cells.{place≡, ready_for→, →ready_for, older_strict
 use Rattle.ideal.specs.Fit.{Fit, Stays, stays_refl, fit-part}
 
 -- what is found for an output: the first of its ready records, by slot and then input
-abbrev pub OldestReady : List Cell → Output → Found → Type 0
+abbrev pub OldestReady : List Cell → Output → Option ℕ → Type 0
 OldestReady cs o x = Least (λ k. is_ready_for o (nth cs k)) (λ i j. older (nth cs i) (nth cs j)) (length cs) x
 
 pub oldest_is : (cs : List Cell) (o : Output) → OldestReady cs o (oldest_ready cs o)
@@ -42,9 +40,9 @@ module _ (n : ℕ) (cs : List Cell) where
       let b = both (ltb (nth cs k).output.0 n) _ h in
       go (ltb-true _ _ b.0) (oldest_ready cs (nth cs k).output) (oldest_is cs (nth cs k).output) b.1
     where
-      go : (nth cs k).output.0 < n → (x : Found) → OldestReady cs (nth cs k).output x → So (is_at k x) → FirstReady n cs k
-      go l Nothing s x = absurd (false≢true x)
-      go l (At j) s x =
+      go : (nth cs k).output.0 < n → (x : Option ℕ) → OldestReady cs (nth cs k).output x → So (is_at k x) → FirstReady n cs k
+      go l None s x = absurd (false≢true x)
+      go l (Some j) s x =
           let e : k ≡ j = eqb-true k j x in
           record {
             below = rw e s.0;
@@ -54,7 +52,7 @@ module _ (n : ℕ) (cs : List Cell) where
           }
 
   -- what an output below n finds is emitted there
-  pub found-emitted : (o : Output) (k : ℕ) → o.0 < n → oldest_ready cs o ≡ At k → OldestReady cs o (At k) → So (is_emitted n cs k)
+  pub found-emitted : (o : Output) (k : ℕ) → o.0 < n → oldest_ready cs o ≡ Some k → OldestReady cs o (Some k) → So (is_emitted n cs k)
   unfolding is_emitted
   found-emitted o k l e s =
       let q = (ready_for→ o (nth cs k) s.1).1 in
@@ -65,10 +63,10 @@ module _ (n : ℕ) (cs : List Cell) where
       → (k : ℕ) × (k < length cs) × So (is_emitted n cs k) × ((nth cs k).output.0 ≡ (nth cs j).output.0)
   some_emitted j i w l = go (oldest_ready cs (nth cs j).output) refl (oldest_is cs (nth cs j).output)
     where
-      go : (x : Found) → oldest_ready cs (nth cs j).output ≡ x → OldestReady cs (nth cs j).output x
+      go : (x : Option ℕ) → oldest_ready cs (nth cs j).output ≡ x → OldestReady cs (nth cs j).output x
           → (k : ℕ) × (k < length cs) × So (is_emitted n cs k) × ((nth cs k).output.0 ≡ (nth cs j).output.0)
-      go Nothing e s = absurd (s j i (→ready_for (nth cs j).output (nth cs j) w refl))
-      go (At k) e s = (k, s.0, found-emitted (nth cs j).output k l e s, (ready_for→ (nth cs j).output (nth cs k) s.1).1)
+      go None e s = absurd (s j i (→ready_for (nth cs j).output (nth cs j) w refl))
+      go (Some k) e s = (k, s.0, found-emitted (nth cs j).output k l e s, (ready_for→ (nth cs j).output (nth cs k) s.1).1)
 
   pub length-exhale : length (exhale n cs) ≡ length cs
   unfolding exhale

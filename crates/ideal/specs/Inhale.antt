@@ -1,7 +1,7 @@
 -- The inhale: what stood there stays, and each arriving cell takes a free record of its own. That the table stays fit, and that none is lost,
 -- stands in proofs/Inhale.antt.
 -- Assumes nothing.
-use Rattle.std.specs.Prelude.{◌≡◌, refl, ◌⊎◌, true, ℕ, suc, ◌+◌, ◌≤◌, ◌<◌, eqb, ltb, length, set}
+use Rattle.std.specs.Prelude.{◌≡◌, refl, ◌⊎◌, true, ℕ, suc, ◌+◌, ◌≤◌, ◌<◌, eqb, ltb, length, set, Option, Some, None}
 use Rattle.std.proofs.Common.{sym, ◌∙◌, inl, inr, arith, eq-zero-or-pos, eq-or-lt_of_le, length-set, get_or-set_same, eqb-true, eq-eqb}
 use Rattle.std.proofs.Math.Path.{ap}
 use Rattle.std.proofs.Math.Logic.{⊎_elim}
@@ -14,8 +14,6 @@ use Rattle.laws.specs.Least.{Least}
 use Rattle.laws.proofs.Least.{lowest_is}
 use Rattle.laws.specs.Lists.{set_cases}
 use Rattle.laws.specs.Order.{pred_below}
-use Rattle.laws.specs.declared.Found.{Found}
-use Rattle.laws.specs.declared.Found.TheVariants.{At, Nothing}
 use Rattle.rules.specs.declared.Slot.{Slot}
 use Rattle.rules.specs.declared.Cell.{Cell}
 use Rattle.rules.specs.Cells.{free, nth, slot_of, is_free, is_live}
@@ -172,12 +170,12 @@ module _ {t : Slot} {arrivals : List ℕ} {cs : List Cell} where
         (λ x. rw (cond_false (arrives arrivals i) (at (lowest_free us)) us x) (inhaled_skip x))
         (passes (arrives arrivals i))
       where
-        at : Found → List Cell
+        at : Option ℕ → List Cell
         at f = store_at f (arrival t arrivals i) us
 
-        go : So (arrives arrivals i) → (f : Found) → Least (λ k. is_free (nth us k)) ltb (length us) f → Inhaled t arrivals (suc i) cs (at f)
-        go x (At k) s = inhaled-store k s.0 (free→ _ s.1) x
-        go x Nothing s = let k = some_free us (room x) in absurd (s k.0 k.1 k.2)
+        go : So (arrives arrivals i) → (f : Option ℕ) → Least (λ k. is_free (nth us k)) ltb (length us) f → Inhaled t arrivals (suc i) cs (at f)
+        go x (Some k) s = inhaled-store k s.0 (free→ _ s.1) x
+        go x None s = let k = some_free us (room x) in absurd (s k.0 k.1 k.2)
 
 -- a live record is an old one, or came in slot t
 pub inhaled_was : {t : Slot} {arrivals : List ℕ} {i : ℕ} {cs us : List Cell} → Inhaled t arrivals i cs us → (k : ℕ) → k < length cs → 1 ≤ (nth us k).place

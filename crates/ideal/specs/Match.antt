@@ -1,6 +1,6 @@
 -- The match of a phase: there is exactly one, picking finds it, and when picking ends no waiting cell is free of conflict.
 -- Assumes nothing.
-use Rattle.std.specs.Prelude.{◌≡◌, ◌⊎◌, Bool, ◌&&◌, List, eqb}
+use Rattle.std.specs.Prelude.{◌≡◌, ◌⊎◌, Bool, ◌&&◌, List, eqb, Option, Some, None}
 use Rattle.std.proofs.Math.Path.{refl, sym, ap}
 use Rattle.std.proofs.Common.{subst, ◌∙◌}
 use Rattle.std.proofs.Math.Logic.{inl, inr, ⊎_elim}
@@ -19,8 +19,6 @@ use Rattle.laws.specs.Choice.{Choice, choice_unique}
 use Rattle.laws.specs.Least.{Least, least_is, lowest}
 use Rattle.laws.proofs.Least.{least_at, lowest_is, count_onto}
 use Rattle.laws.specs.Lists.{get_or-tabulate}
-use Rattle.laws.specs.declared.Found.{Found}
-use Rattle.laws.specs.declared.Found.TheVariants.{At, Nothing}
 use Rattle.rules.specs.declared.Input.{Input}
 use Rattle.rules.specs.declared.Output.{Output}
 use Rattle.rules.specs.declared.Slot.{Slot}
@@ -129,7 +127,7 @@ module _ {r : List ℕ} {cs : List Cell} where
 
 -- Picking finds the match -------------------------------------------------------------------------
 
-pub open_found : (r : List ℕ) (cs : List Cell) (m : ℕ → Bool) (k : ℕ) → first_open r cs m ≡ At k → (k < length cs) × So (is_open cs m k)
+pub open_found : (r : List ℕ) (cs : List Cell) (m : ℕ → Bool) (k : ℕ) → first_open r cs m ≡ Some k → (k < length cs) × So (is_open cs m k)
 unfolding first_open
 open_found r cs m k e = least_at (is_open cs m) (λ i j. before r (nth cs i) (nth cs j)) (length cs) k e
 
@@ -141,9 +139,9 @@ match_waits n r cs = over_ind (λ i m. round r cs m) none (λ i m. Waiting m) (�
     Waiting : (ℕ → Bool) → Type 0
     Waiting m = (k : ℕ) → So (m k) → (k < length cs) × ((nth cs k).place ≡ 1)
 
-    go : (m : ℕ → Bool) → Waiting m → (x : Found) → first_open r cs m ≡ x → Waiting (add_found m x)
-    go m h Nothing e k x = h k x
-    go m h (At j) e k x =
+    go : (m : ℕ → Bool) → Waiting m → (x : Option ℕ) → first_open r cs m ≡ x → Waiting (add_found m x)
+    go m h None e k x = h k x
+    go m h (Some j) e k x =
         let o = open_found r cs m j e in
         ⊎_elim (h k) (λ (q : k ≡ j). rw q (o.0, waiting→ _ (open→ cs m j o.1).0)) (in_add m j k x)
 
@@ -168,14 +166,14 @@ module _ {n : ℕ} {t : Slot} {cs : List Cell} (f : Fit n t cs) (r : List ℕ) w
         beaten = λ k i w x y. absurd (false≢true (shut→ cs none k w y).2);
       }
 
-  firsts : (ℕ → Bool) → Found → Type 0
+  firsts : (ℕ → Bool) → Option ℕ → Type 0
   firsts m x = Least (is_open cs m) (λ i j. before r (nth cs i) (nth cs j)) (length cs) x
 
   first_is : (m : ℕ → Bool) → firsts m (first_open r cs m)
   unfolding firsts first_open
   first_is m = least_is (is_open cs m) (λ i j. before r (nth cs i) (nth cs j)) (strict_on (before r) (before_strict r) (nth cs)) (length cs)
 
-  grow : (m : ℕ → Bool) (k : ℕ) → Part m → firsts m (At k) → Part (add m k)
+  grow : (m : ℕ → Bool) (k : ℕ) → Part m → firsts m (Some k) → Part (add m k)
   unfolding firsts
   grow m k p s = record { apart = ap'; beaten = be }
     where
@@ -216,7 +214,7 @@ module _ {n : ℕ} {t : Slot} {cs : List Cell} (f : Fit n t cs) (r : List ℕ) w
                   (in_add m k d.0 d.2)
 
   -- a round takes one more output
-  takes : (m : ℕ → Bool) (k : ℕ) → firsts m (At k) → moves n m cs + 1 ≤ moves n (add m k) cs
+  takes : (m : ℕ → Bool) (k : ℕ) → firsts m (Some k) → moves n m cs + 1 ≤ moves n (add m k) cs
   unfolding firsts moves
   takes m k s =
       count_more (λ o. is_taken_output m cs (output_of o)) (λ o. is_taken_output (add m k) cs (output_of o)) n
@@ -237,9 +235,9 @@ module _ {n : ℕ} {t : Slot} {cs : List Cell} (f : Fit n t cs) (r : List ℕ) w
   unfolding round After firsts Closed
   step i m a = go (first_open r cs m) (first_is m)
     where
-      go : (x : Found) → firsts m x → After (suc i) (add_found m x)
-      go Nothing s = (a.0, inl s)
-      go (At k) s = (grow m k a.0 s, inr (⊎_elim (λ c. absurd (c k s.0 s.1)) (λ l. omega (arith, takes m k s)) a.1))
+      go : (x : Option ℕ) → firsts m x → After (suc i) (add_found m x)
+      go None s = (a.0, inl s)
+      go (Some k) s = (grow m k a.0 s, inr (⊎_elim (λ c. absurd (c k s.0 s.1)) (λ l. omega (arith, takes m k s)) a.1))
 
   -- where N outputs are taken nothing is open
   all_taken : (m : ℕ → Bool) → n ≤ moves n m cs → Closed m
@@ -267,7 +265,7 @@ module _ {n : ℕ} {t : Slot} {cs : List Cell} (f : Fit n t cs) (r : List ℕ) w
 
 module _ {n : ℕ} {t : Slot} {cs : List Cell} (f : Fit n t cs) {r : List ℕ} {m : ℕ → Bool} (a : Match r cs m) where
   -- the record that an output's match word is of
-  server : ℕ → Found
+  server : ℕ → Option ℕ
   server o = lowest (λ k. m k && same_output (nth cs k).output (output_of o)) (length cs)
 
   -- "a phase moves as many cells as there are taken outputs"
@@ -298,20 +296,20 @@ module _ {n : ℕ} {t : Slot} {cs : List Cell} (f : Fit n t cs) {r : List ℕ} {
       word_at (nth cs k).output.0 ((f.each k l).output (omega (arith, waiting→ _ (a.waits k l x))))
       ∙ go (server (nth cs k).output.0) (lowest_is (λ j. m j && same_output (nth cs j).output (nth cs k).output) (length cs))
     where
-      go : (y : Found) → Least (λ j. m j && same_output (nth cs j).output (nth cs k).output) ltb (length cs) y → served_word cs y ≡ suc (nth cs k).input.0
-      go (At j) s =
+      go : (y : Option ℕ) → Least (λ j. m j && same_output (nth cs j).output (nth cs k).output) ltb (length cs) y → served_word cs y ≡ suc (nth cs k).input.0
+      go (Some j) s =
           let b = both (m j) _ s.1 in
           let e : j ≡ k = a.apart j k s.0 l b.0 x (by_output (nth cs j) (nth cs k) (eqb-true _ _ b.1)) in
           ap (λ (i : ℕ). suc (nth cs i).input.0) e
-      go Nothing s = absurd (s k l (join _ _ x (eqb_self (nth cs k).output.0)))
+      go None s = absurd (s k l (join _ _ x (eqb_self (nth cs k).output.0)))
 
   pub match_word_none : (o : ℕ) → o < n → No (is_taken_output m cs (output_of o)) → get_or (match_words n m cs) o 0 ≡ 0
   unfolding is_taken_output server
   match_word_none o l h = word_at o l ∙ go (server o) (lowest_is (λ k. m k && same_output (nth cs k).output (output_of o)) (length cs))
     where
-      go : (y : Found) → Least (λ k. m k && same_output (nth cs k).output (output_of o)) ltb (length cs) y → served_word cs y ≡ 0
-      go (At k) s = absurd (refuted (→any (λ k. m k && same_output (nth cs k).output (output_of o)) (length cs) k s.0 s.1) h)
-      go Nothing s = refl
+      go : (y : Option ℕ) → Least (λ k. m k && same_output (nth cs k).output (output_of o)) ltb (length cs) y → served_word cs y ≡ 0
+      go (Some k) s = absurd (refuted (→any (λ k. m k && same_output (nth cs k).output (output_of o)) (length cs) k s.0 s.1) h)
+      go None s = refl
 
   -- as many words are not 0 as cells move
   pub words-moves : count (λ o. not (eqb (get_or (match_words n m cs) o 0) 0)) n ≡ count m (length cs)

@@ -1,6 +1,6 @@
 -- The conditions of the published model, with document 01's ties, allow nothing else: the same cells enter, move and leave.
 -- Assumes nothing.
-use Rattle.std.specs.Prelude.{◌≡◌, refl, Bool, not, ◌&&◌, ◌||◌, List, ℕ, zero, suc, ◌≤◌, ◌<◌, ltb, length}
+use Rattle.std.specs.Prelude.{◌≡◌, refl, Bool, not, ◌&&◌, ◌||◌, List, ℕ, zero, suc, ◌≤◌, ◌<◌, ltb, length, Option, Some, None}
 use Rattle.std.proofs.Common.{sym, ap₂, subst, ◌∙◌, ⊎_elim, arith}
 use Rattle.std.proofs.Math.Bool.{So}
 use Rattle.laws.specs.Tests.{passes, refuted, to_no, both, join, denied, deny, same_test}
@@ -9,8 +9,6 @@ use Rattle.laws.specs.Count.{count_into}
 use Rattle.laws.specs.Least.{Least, lowest}
 use Rattle.laws.proofs.Least.{lowest_is}
 use Rattle.laws.specs.Lists.{tabulate-same}
-use Rattle.laws.specs.declared.Found.{Found}
-use Rattle.laws.specs.declared.Found.TheVariants.{At, Nothing}
 use Rattle.rules.specs.declared.Output.{Output}
 use Rattle.rules.specs.declared.Slot.{Slot}
 use Rattle.rules.specs.declared.Cell.{Cell}
@@ -126,12 +124,12 @@ unfoldable pub Single : List Cell → Type 0
 Single t = (j k : ℕ) → j < length t → k < length t → So (is_live (nth t j)) → So (is_live (nth t k)) → So (same (nth t j) (nth t k)) → j ≡ k
 
 -- the record of u that holds a cell, if any does
-place_of : List Cell → Cell → Found
+place_of : List Cell → Cell → Option ℕ
 place_of u c = lowest (λ k. is_ready (nth u k) && same (nth u k) c) (length u)
 
-number : Found → ℕ
-number (At k) = k
-number Nothing = 0
+number : Option ℕ → ℕ
+number (Some k) = k
+number None = 0
 
 -- a ready record of u that holds c
 HoldsReady : List Cell → Cell → ℕ → Type 0
@@ -141,9 +139,9 @@ place_is : (u : List Cell) (c : Cell) → So (output_buffer u c) → HoldsReady 
 unfolding place_of number HoldsReady
 place_is u c h = go (place_of u c) (lowest_is (λ k. is_ready (nth u k) && same (nth u k) c) (length u))
   where
-    go : (x : Found) → Least (λ k. is_ready (nth u k) && same (nth u k) c) ltb (length u) x → HoldsReady u c (number x)
-    go (At k) s = let b = both (is_ready (nth u k)) _ s.1 in (s.0, ready→ _ b.0, b.1)
-    go Nothing s = let k = output→ u c h in absurd (s k.0 k.1 (join _ _ (→ready _ k.2) k.3))
+    go : (x : Option ℕ) → Least (λ k. is_ready (nth u k) && same (nth u k) c) ltb (length u) x → HoldsReady u c (number x)
+    go (Some k) s = let b = both (is_ready (nth u k)) _ s.1 in (s.0, ready→ _ b.0, b.1)
+    go None s = let k = output→ u c h in absurd (s k.0 k.1 (join _ _ (→ready _ k.2) k.3))
 
 reading_le : (t u : List Cell) → Alike t u → Single t → (o : Output) → ready_count t o ≤ ready_count u o
 unfolding ready_count Single HoldsReady

@@ -10,9 +10,7 @@ use Rattle.std.proofs.lemmas.Bool.{false≢true}
 use mathlib.Core.List.{List, [], ◌∷◌, ◌++◌}
 use Rattle.laws.specs.Tests.{No, passes, refuted, both, neither, on_left, on_right, denied, cond_true, cond_false}
 use Rattle.rules.specs.declared.Switch.{Switch}
-use Rattle.rules.specs.declared.Answer.{Answer}
-use Rattle.rules.specs.declared.Answer.TheVariants.{Done}
-use Rattle.rules.specs.Answers.{Lists, number_of, is_done, Check, first_of, fresh_checks, slot_checks, fresh_answer, slot_answer}
+use Rattle.rules.specs.Answers.{Answer, done, Lists, number_of, is_done, Check, first_of, fresh_checks, slot_checks, fresh_answer, slot_answer}
 
 -- Rows by their answers --------------------------------------------------------------------------
 
@@ -161,12 +159,12 @@ done→ (c ∷ cs) r d =
     (passes c.holds)
 
 -- and then it is done itself
-pub none_holds : (cs : List Check) → No (any_holds cs) → first_of cs ≡ Done
+pub none_holds : (cs : List Check) → No (any_holds cs) → first_of cs ≡ done
 unfolding any_holds first_of
 none_holds [] h = refl
 none_holds (c ∷ cs) h = let n = neither c.holds (any_holds cs) h in cond_false c.holds c.answer (first_of cs) n.0 ∙ none_holds cs n.1
 
-pub is_done_lem : {a : Answer} (cs : List Check) → So (refuses cs) → a ≡ first_of cs → So (is_done a) → a ≡ Done
+pub is_done_lem : {a : Answer} (cs : List Check) → So (refuses cs) → a ≡ first_of cs → So (is_done a) → a ≡ done
 is_done_lem cs r e d = e ∙ none_holds cs (done→ cs r (ap is_done (sym e) ∙ d))
 
 pub given_done : (cs : List Check) → So (refuses cs) → (number_of (first_of cs) ≡ 0) ↔ No (any_holds cs)

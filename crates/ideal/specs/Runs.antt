@@ -10,8 +10,7 @@ use Rattle.std.proofs.lemmas.Bool.{false≢true}
 use mathlib.Core.List.{List, [], ◌∷◌}
 use Rattle.laws.specs.Tests.{No, passes, refuted, both, join, denied, cond_false}
 use Rattle.rules.specs.declared.Switch.{Switch}
-use Rattle.rules.specs.declared.Answer.{Answer}
-use Rattle.rules.specs.Answers.{Lists, is_done, fresh_answer, slot_answer}
+use Rattle.rules.specs.Answers.{Answer, Lists, is_done, fresh_answer, slot_answer}
 use Rattle.rules.specs.Calls.{State, Call, starts, slots, restarted, Started, Outcome, slot_runs, Answered, by_start, by_slot, does, run}
 use Rattle.rules.specs.Demands.{is_accepted, restarts, unbroken, call_at, state_at, Met, Ran, left}
 use Rattle.ideal.specs.Calls.{Accepted, accepted→, slot_accepted, slot_refused_lem, fresh_accepted, fresh_refused}

@@ -2,7 +2,7 @@
 -- members are left, and what the walk keeps is said of those that were visited. Three things that such a walk can keep stand below it: the first of
 -- what belongs to the visited (`First`), the visited with the lowest key, and a list with a word for each visited.
 -- Assumes nothing.
-use Rattle.std.specs.Prelude.{ℕ, ◌<◌, ◌≡◌, ◌⊎◌, Bool, false, not, cond, ◌&&◌, ◌||◌, List, eqb, length, get_or, set, replicate}
+use Rattle.std.specs.Prelude.{ℕ, ◌<◌, ◌≡◌, ◌⊎◌, Bool, false, not, cond, ◌&&◌, ◌||◌, List, eqb, length, get_or, set, replicate, Option, None}
 use Rattle.std.proofs.Common.{sym, ap, subst, ◌∙◌, arith, length-set, get_or-set_same, get_or-set_other, eqb-true}
 use Rattle.std.proofs.Math.Path.{fun_ext}
 use Rattle.std.proofs.Math.Logic.{inl, inr, ⊎_elim}
@@ -11,8 +11,6 @@ use Rattle.std.proofs.lemmas.Bool.{false≢true, eqb-false}
 use Rattle.std.proofs.lemmas.List.{length-replicate, get_or-replicate}
 use Rattle.laws.specs.Tests.{No, passes, refuted, to_no, both, join, either, on_left, on_right, denied, deny, same_test, eqb_self, cond_true}
 use Rattle.laws.specs.First.{First}
-use Rattle.laws.specs.declared.Found.{Found}
-use Rattle.laws.specs.declared.Found.TheVariants.{Nothing}
 
 -- Sets -------------------------------------------------------------------------------------------
 
@@ -93,11 +91,11 @@ module _ {S : Type 0} {P : (ℕ → Bool) → S → Type 0} {members : ℕ → B
 -- The first of what belongs to the visited -------------------------------------------------------
 
 -- of the numbers below n that pass a test, each belongs to a port; what was found is the first of those whose port is in v
-pub record FirstIn (test : ℕ → Bool) (port : ℕ → ℕ) (before : ℕ → ℕ → Bool) (n : ℕ) (v : ℕ → Bool) (found : Found) : Type 0 where
+pub record FirstIn (test : ℕ → Bool) (port : ℕ → ℕ) (before : ℕ → ℕ → Bool) (n : ℕ) (v : ℕ → Bool) (found : Option ℕ) : Type 0 where
   pub first : First (λ k. test k && v (port k)) before n found
 
 module _ {test : ℕ → Bool} {port : ℕ → ℕ} {before : ℕ → ℕ → Bool} {n : ℕ} where
-  pub first-nobody : FirstIn test port before n nobody Nothing
+  pub first-nobody : FirstIn test port before n nobody None
   first-nobody = record { first = λ j l h. false≢true (both (test j) false h).1 }
 
 -- The visited with the lowest key ----------------------------------------------------------------

@@ -1,8 +1,2 @@
-// What a search answers: the number of a record, or that there is none. The laws of searches stand in specs/.
+// Laws of walks, counts, searches, orders and lists, in specs/ and proofs/; there is no code here.
 #![tactic(auto)]
-
-#[derive(Clone, Copy)]
-pub enum Found {
-    At(usize),
-    Nothing,
-}

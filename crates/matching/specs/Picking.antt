@@ -1,6 +1,6 @@
 -- Picking by masks: what a round of the code finds is what a round of the rules does, and what it keeps shows the cells picked so far.
 -- Assumes nothing.
-use Rattle.std.specs.Prelude.{◌≡◌, ◌⊎◌, Bool, ◌&&◌, eqb, get_or, set}
+use Rattle.std.specs.Prelude.{◌≡◌, ◌⊎◌, Bool, ◌&&◌, eqb, get_or, set, Option, None}
 use Rattle.std.proofs.Math.Path.{refl, sym, ap}
 use Rattle.std.proofs.Common.{ap₂, ◌∙◌, inl, inr, add-suc, length-set, ext_get_or, get_or-set_same, get_or-set_other, eqb-true}
 use Rattle.std.proofs.Math.Logic.{⊎_elim}
@@ -16,8 +16,6 @@ use Rattle.laws.specs.Walk.{over, over_more}
 use Rattle.laws.specs.Count.{any, any→, →any}
 use Rattle.laws.specs.Least.{least}
 use Rattle.laws.proofs.Least.{least-same}
-use Rattle.laws.specs.declared.Found.{Found}
-use Rattle.laws.specs.declared.Found.TheVariants.{Nothing}
 use Rattle.ports.specs.Ports.{has, Added}
 use Rattle.ports.specs.PortLaws.{has-none}
 use Rattle.rules.specs.declared.Cell.{Cell}
@@ -41,7 +39,7 @@ unfoldable pub candidate : (ℕ → Bool) → (ℕ → Bool) → Cell → Bool
 candidate ins outs c = waits_among ins (λ o. not (outs o)) c
 
 -- of those, the one that stands before the others
-unfoldable pub first_candidate : List ℕ → (ℕ → Bool) → (ℕ → Bool) → List Cell → Found
+unfoldable pub first_candidate : List ℕ → (ℕ → Bool) → (ℕ → Bool) → List Cell → Option ℕ
 first_candidate r ins outs cs = least (λ k. candidate ins outs (nth cs k)) (λ i j. before r (nth cs i) (nth cs j)) (length cs)
 
 -- The table us becomes vs, the taken ports q next, the inputs served ns ms: record k becomes ready, its ports are taken, its input is kept at its
@@ -132,13 +130,13 @@ module _ (r : List ℕ) (cs : List Cell) where
   unfolding round
   picks_more i = over_more _ _ i
 
-  stays : (i d : ℕ) → first_open r cs (picks r cs i) ≡ Nothing → picks r cs (i + d) ≡ picks r cs i
+  stays : (i d : ℕ) → first_open r cs (picks r cs i) ≡ None → picks r cs (i + d) ≡ picks r cs i
   unfolding over round
   stays i zero h = rw add-zero
   stays i (suc d) h = rw (add-suc, stays i d h, h)
 
   -- where a round finds nothing, no later round does
-  pub stops : (i n : ℕ) → i ≤ n → first_open r cs (picks r cs i) ≡ Nothing → picks r cs i ≡ match_of n r cs
+  pub stops : (i n : ℕ) → i ≤ n → first_open r cs (picks r cs i) ≡ None → picks r cs i ≡ match_of n r cs
   unfolding match_of
   stops i n l h =
       let q : i + (n - i) ≡ n = omega arith in

@@ -2,7 +2,7 @@
 -- each, the first of these.
 -- Assumes nothing.
 use Prim.Native.Nat.{ℕ, ◌+◌, ◌^◌, ◌≤◌, ◌<◌}
-use Rattle.std.specs.Prelude.{◌≡◌, ◌⊎◌, Bool, true, false, cond, ◌&&◌, List, ltb, set}
+use Rattle.std.specs.Prelude.{◌≡◌, ◌⊎◌, Bool, true, false, cond, ◌&&◌, List, ltb, set, Option, Some, None}
 use Rattle.std.proofs.Math.Path.{refl, ap}
 use Rattle.std.proofs.Common.{sym, ◌∙◌, subst, inl, arith}
 use Rattle.std.proofs.Math.Logic.{inr, ⊎_elim}
@@ -20,8 +20,6 @@ use Rattle.laws.specs.First.{Ahead, First, first_found, first_alike, first_below
 use Rattle.laws.proofs.First.{first-least}
 use Rattle.laws.specs.SetWalk.{also, FirstIn, LowestOf, lowest_skip, lowest-fresh, lowest_tie, lowest-above, lowest-nobody, nobody}
 use Rattle.laws.proofs.SetWalk.{first_visit}
-use Rattle.laws.specs.declared.Found.{Found}
-use Rattle.laws.specs.declared.Found.TheVariants.{At, Nothing}
 use Rattle.ports.specs.declared.Tied.{Tied}
 use Rattle.ports.specs.Ports.{mask_ports, has, with_port, lowered, Except}
 use Rattle.ports.specs.PortLaws.{has-none, has-nobody, none_inside, added, added_also, added_kept, except_in, except_out}
@@ -47,14 +45,14 @@ abbrev before_at : List ℕ → List Cell → ℕ → ℕ → Bool
 before_at r cs i j = before r (nth cs i) (nth cs j)
 
 -- x is the first by age of the records that pass a test; by reading and age, of the candidates
-abbrev Oldest : List Cell → (Cell → Bool) → Found → Type 0
+abbrev Oldest : List Cell → (Cell → Bool) → Option ℕ → Type 0
 Oldest cs test x = First (λ k. test (nth cs k)) (older_at cs) (length cs) x
 
-abbrev FirstCandidate : List ℕ → (ℕ → Bool) → (ℕ → Bool) → List Cell → Found → Type 0
+abbrev FirstCandidate : List ℕ → (ℕ → Bool) → (ℕ → Bool) → List Cell → Option ℕ → Type 0
 FirstCandidate r ins outs cs x = First (λ k. candidate ins outs (nth cs k)) (before_at r cs) (length cs) x
 
 -- of the waiting cells whose inputs are not in the one set and whose outputs are in the other, the oldest
-unfoldable pub first_among : (ℕ → Bool) → (ℕ → Bool) → List Cell → Found
+unfoldable pub first_among : (ℕ → Bool) → (ℕ → Bool) → List Cell → Option ℕ
 first_among ins outs cs = least (λ k. waits_among ins outs (nth cs k)) (older_at cs) (length cs)
 
 -- a waiting cell for output o whose input is not in the set
@@ -62,7 +60,7 @@ unfoldable pub waits_on : (ℕ → Bool) → ℕ → Cell → Bool
 waits_on ins o c = waits_among ins (λ p. eqb p o) c
 
 -- of those, the oldest
-unfoldable pub first_for : (ℕ → Bool) → ℕ → List Cell → Found
+unfoldable pub first_for : (ℕ → Bool) → ℕ → List Cell → Option ℕ
 first_for ins o cs = least (λ k. waits_on ins o (nth cs k)) (older_at cs) (length cs)
 
 -- there is one
@@ -107,20 +105,20 @@ module _ (cs : List Cell) (i o : ℕ) where
   head_first = least_first (older_at cs) (ranks_on older older_ranks (nth cs)) (λ k. waits_for i o (nth cs k)) (length cs)
 
   -- there is a head where a cell of the pair waits
-  found_head : (x : Found) → Oldest cs (waits_for i o) x → (k : ℕ) → k < length cs → So (waits_for i o (nth cs k)) → So (is_found x)
-  found_head (At j) h k l w = refl
-  found_head Nothing h k l w = absurd (h k l w)
+  found_head : (x : Option ℕ) → Oldest cs (waits_for i o) x → (k : ℕ) → k < length cs → So (waits_for i o (nth cs k)) → So (is_found x)
+  found_head (Some j) h k l w = refl
+  found_head None h k l w = absurd (h k l w)
 
-  head_found : (x : Found) → Oldest cs (waits_for i o) x → So (is_found x) → (k : ℕ) × (k < length cs) × So (waits_for i o (nth cs k))
-  head_found (At j) h w = (j, h.0, h.1)
-  head_found Nothing h w = absurd (false≢true w)
+  head_found : (x : Option ℕ) → Oldest cs (waits_for i o) x → So (is_found x) → (k : ℕ) × (k < length cs) × So (waits_for i o (nth cs k))
+  head_found (Some j) h w = (j, h.0, h.1)
+  head_found None h w = absurd (false≢true w)
 
 module _ {cs : List Cell} {qs : List ℕ} (q : Queues All cs qs) where
   -- what the queues say of a pair
   pub head_read : (i o : ℕ) → i < most_ports → o < most_ports → named (head_word qs i o) ≡ head_of cs i o
   head_read i o l m = ap named (q.heads.head i o l m tt) ∙ named_name (head_of cs i o)
 
-  pub head_below_records : (i o : ℕ) → i < most_ports → o < most_ports → {n : ℕ} → length cs ≡ n → (x : Found) → x ≡ named (head_word qs i o) → Below n x
+  pub head_below_records : (i o : ℕ) → i < most_ports → o < most_ports → {n : ℕ} → length cs ≡ n → (x : Option ℕ) → x ≡ named (head_word qs i o) → Below n x
   head_below_records i o l m e x h = rw (h, head_read i o l m, ← e) (head_below_lem cs (length cs) i o)
 
   sends : (k : ℕ) → k < length cs → So (is_waiting (nth cs k)) → So (has (senders qs (nth cs k).output.0) (nth cs k).input.0)
@@ -186,19 +184,19 @@ module _ {cs : List Cell} {qs : List ℕ} (q : Queues All cs qs) where
 -- Walks over ports -------------------------------------------------------------------------------
 
 -- found is the oldest of the cells for o, at inputs that are not in the one set and in the other
-abbrev pub ForOutput : (ℕ → Bool) → ℕ → List Cell → (ℕ → Bool) → Found → Type 0
+abbrev pub ForOutput : (ℕ → Bool) → ℕ → List Cell → (ℕ → Bool) → Option ℕ → Type 0
 ForOutput ins o cs = FirstIn (λ k. waits_on ins o (nth cs k)) (λ k. (nth cs k).input.0) (older_at cs) (length cs)
 
 -- found is the oldest of the cells for outputs of s, at inputs that are not in the one set, for outputs in the other
-abbrev pub AmongOutputs : (ℕ → Bool) → ℕ → List Cell → (ℕ → Bool) → Found → Type 0
+abbrev pub AmongOutputs : (ℕ → Bool) → ℕ → List Cell → (ℕ → Bool) → Option ℕ → Type 0
 AmongOutputs ins s cs = FirstIn (λ k. waits_among ins (has s) (nth cs k)) (λ k. (nth cs k).output.0) (older_at cs) (length cs)
 
-pub walk_below : (test : ℕ → Bool) (port : ℕ → ℕ) (cs : List Cell) {v : ℕ → Bool} {x : Found} → FirstIn test port (older_at cs) (length cs) v x
+pub walk_below : (test : ℕ → Bool) (port : ℕ → ℕ) (cs : List Cell) {v : ℕ → Bool} {x : Option ℕ} → FirstIn test port (older_at cs) (length cs) v x
     → Below (length cs) x
 walk_below test port cs {v} {x} f = first_below (λ k. test k && v (port k)) (older_at cs) (length cs) x f.first
 
 -- every port of what passes the test was visited
-walk_least : (test : ℕ → Bool) (port : ℕ → ℕ) (cs : List Cell) {v : ℕ → Bool} {x : Found} → ((k : ℕ) → k < length cs → So (test k) → So (v (port k)))
+walk_least : (test : ℕ → Bool) (port : ℕ → ℕ) (cs : List Cell) {v : ℕ → Bool} {x : Option ℕ} → ((k : ℕ) → k < length cs → So (test k) → So (v (port k)))
     → FirstIn test port (older_at cs) (length cs) v x → x ≡ least test (older_at cs) (length cs)
 walk_least test port cs {v} {x} all f =
     first-least (older_at cs) (ranks_on older older_ranks (nth cs)) test (length cs) x
@@ -208,7 +206,7 @@ walk_least test port cs {v} {x} all f =
 
 module _ (ins : ℕ → Bool) (cs : List Cell) where
   -- an input that is not taken is visited: the head of its pair
-  pub visit_input : (o : ℕ) {v : ℕ → Bool} {x : Found} (i : ℕ) → No (ins i) → ForOutput ins o cs v x
+  pub visit_input : (o : ℕ) {v : ℕ → Bool} {x : Option ℕ} (i : ℕ) → No (ins i) → ForOutput ins o cs v x
       → ForOutput ins o cs (also v i) (first_found (older_at cs) x (head_of cs i o))
   visit_input o i n f =
       first_visit (ranks_on older older_ranks (nth cs)) f i (λ k. waits_for i o (nth cs k))
@@ -225,7 +223,7 @@ module _ (ins : ℕ → Bool) (cs : List Cell) where
   first_for_lem o = least_first (older_at cs) (ranks_on older older_ranks (nth cs)) (λ k. waits_on ins o (nth cs k)) (length cs)
 
   -- an output of the set is visited: the first cell for it
-  pub visit_output : (s : ℕ) {v : ℕ → Bool} {x : Found} (o : ℕ) → So (has s o) → AmongOutputs ins s cs v x
+  pub visit_output : (s : ℕ) {v : ℕ → Bool} {x : Option ℕ} (o : ℕ) → So (has s o) → AmongOutputs ins s cs v x
       → AmongOutputs ins s cs (also v o) (first_found (older_at cs) x (first_for ins o cs))
   visit_output s o h f =
       first_visit (ranks_on older older_ranks (nth cs)) f o (λ k. waits_on ins o (nth cs k))
@@ -237,13 +235,13 @@ module _ (ins : ℕ → Bool) (cs : List Cell) where
       →waits_on ins o (nth cs k) w.0 w.1 (eqb-true _ _ b.1)))
       (first_for ins o cs) (first_for_lem o)
 
-  pub all_outputs : (s : ℕ) {x : Found} → AmongOutputs ins s cs (has s) x → x ≡ first_among ins (has s) cs
+  pub all_outputs : (s : ℕ) {x : Option ℕ} → AmongOutputs ins s cs (has s) x → x ≡ first_among ins (has s) cs
   unfolding first_among
   all_outputs s f = walk_least (λ k. waits_among ins (has s) (nth cs k)) _ cs (λ k l h. (among→ ins (has s) (nth cs k) h).2) f
 
 -- every sender that is not taken was visited
 pub all_inputs : {cs : List Cell} {qs : List ℕ} → Queues All cs qs → (ins o left : ℕ) → o < most_ports → Except (senders qs o) ins left
-    → {x : Found} → ForOutput (has ins) o cs (has left) x → x ≡ first_for (has ins) o cs
+    → {x : Option ℕ} → ForOutput (has ins) o cs (has left) x → x ≡ first_for (has ins) o cs
 unfolding first_for
 all_inputs {cs} q ins o left m e f = walk_least (λ k. waits_on (has ins) o (nth cs k)) _ cs (λ k l h. left-has q ins o left m e k l h) f
 
@@ -378,7 +376,7 @@ first-among : (ins : ℕ → Bool) (s : ℕ) (cs : List Cell) → Oldest cs (wai
 unfolding first_among
 first-among ins s cs = least_first (older_at cs) (ranks_on older older_ranks (nth cs)) (λ k. waits_among ins (has s) (nth cs k)) (length cs)
 
-is_first : (r : List ℕ) (ins outs : ℕ → Bool) (cs : List Cell) (x : Found) → FirstCandidate r ins outs cs x → x ≡ first_candidate r ins outs cs
+is_first : (r : List ℕ) (ins outs : ℕ → Bool) (cs : List Cell) (x : Option ℕ) → FirstCandidate r ins outs cs x → x ≡ first_candidate r ins outs cs
 unfolding first_candidate
 is_first r ins outs cs x h =
     first-least (before_at r cs) (ranks_on (before r) (before_ranks r) (nth cs)) (λ k. candidate ins outs (nth cs k)) (length cs) x h
@@ -408,7 +406,7 @@ module _ {r : List ℕ} {q : Taken} {cs : List Cell} {s : ℕ} (h : Kept r q cs 
   abbrev outs : ℕ → Bool
   outs = has q.outputs
 
-  oldest : (k : ℕ) → Oldest cs (waits_among ins (has s)) (At k) → FirstCandidate r ins outs cs (At k)
+  oldest : (k : ℕ) → Oldest cs (waits_among ins (has s)) (Some k) → FirstCandidate r ins outs cs (Some k)
   oldest k t =
       let a = among→ ins (has s) (nth cs k) t.1 in (
         t.0,
@@ -421,9 +419,9 @@ module _ {r : List ℕ} {q : Taken} {cs : List Cell} {s : ℕ} (h : Kept r q cs 
             (passes (has s (nth cs j).output.0)),
       )
 
-  pub kept_first : {k : ℕ} → first_among (has q.inputs) (has s) cs ≡ At k → At k ≡ first_candidate r (has q.inputs) (has q.outputs) cs
+  pub kept_first : {k : ℕ} → first_among (has q.inputs) (has s) cs ≡ Some k → Some k ≡ first_candidate r (has q.inputs) (has q.outputs) cs
   kept_first {k} e =
-      is_first r ins outs cs (At k) (oldest k (subst (λ (x : Found). Oldest cs (waits_among ins (has s)) x) e (first-among ins s cs)))
+      is_first r ins outs cs (Some k) (oldest k (subst (λ (x : Option ℕ). Oldest cs (waits_among ins (has s)) x) e (first-among ins s cs)))
 
 -- among the outputs with the lowest reading there is a cell where there is a candidate
 pub lows_first : {r : List ℕ} {q : Taken} {cs : List Cell} {s : ℕ} → Lows r q cs s
@@ -436,9 +434,9 @@ lows_first {r} {q} {cs} {s} w = is_first r ins outs cs _ (go (first_among ins (h
     outs : ℕ → Bool
     outs = has q.outputs
 
-    go : (found : Found) → Oldest cs (waits_among ins (has s)) found → FirstCandidate r ins outs cs found
-    go (At k) t = oldest (kept_lows w) (λ o x. denied _ (w.all.inside o x).0) k t
-    go Nothing t = λ j l x.
+    go : (found : Option ℕ) → Oldest cs (waits_among ins (has s)) found → FirstCandidate r ins outs cs found
+    go (Some k) t = oldest (kept_lows w) (λ o x. denied _ (w.all.inside o x).0) k t
+    go None t = λ j l x.
         let v = candidate→ ins outs (nth cs j) x in
         let o = w.all.some (nth cs j).output.0 (deny _ v.2) (servable ins outs cs j l x) in
         let k = served ins cs s o.0 o.1 (w.all.inside o.0 o.1).1 in
@@ -463,14 +461,14 @@ module _ {n : ℕ} {r ws us qs : List ℕ} {q : Taken} {ns : List ℕ} {lows i :
   pub rounds_all : i ≡ n → Picked n r ws us qs q ns
   rounds_all e = record { shows = rw (← picks_all r (cells_of ws) n, ← e) a.shows; queues = a.queues }
 
-  module _ {found : Found} (e : found ≡ first_candidate r (has q.inputs) (has q.outputs) (cells_of us)) where
-    pub rounds_stop : found ≡ Nothing → Picked n r ws us qs q ns
+  module _ {found : Option ℕ} (e : found ≡ first_candidate r (has q.inputs) (has q.outputs) (cells_of us)) where
+    pub rounds_stop : found ≡ None → Picked n r ws us qs q ns
     rounds_stop none =
         record { shows = rw (stops r (cells_of ws) i n a.rounds (sym (finds a.shows r) ∙ sym e ∙ none)) at a.shows; queues = a.queues }
 
     -- one that finds record k
-    module _ {k : ℕ} (at : found ≡ At k) (o : Orderly n ws) where
-      opened : first_open r (cells_of ws) (picks r (cells_of ws) i) ≡ At k
+    module _ {k : ℕ} (at : found ≡ Some k) (o : Orderly n ws) where
+      opened : first_open r (cells_of ws) (picks r (cells_of ws) i) ≡ Some k
       opened = sym (finds a.shows r) ∙ sym e ∙ at
 
       inside : k < length (cells_of ws)

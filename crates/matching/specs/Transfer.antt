@@ -1,6 +1,6 @@
 -- A whole phase: from what the rounds keep to the match words and the number of moves.
 -- Assumes nothing.
-use Rattle.std.specs.Prelude.{◌≡◌, Bool, cond, ◌&&◌, List, ltb, length}
+use Rattle.std.specs.Prelude.{◌≡◌, Bool, cond, ◌&&◌, List, ltb, length, Option, Some, None}
 use Rattle.std.proofs.Math.Path.{sym, ap}
 use Rattle.std.proofs.Common.{◌∙◌, arith}
 use Rattle.std.proofs.Math.Bool.{So}
@@ -14,8 +14,6 @@ use Rattle.laws.specs.Least.{Least, lowest}
 use Rattle.laws.proofs.Least.{lowest_is}
 use Rattle.laws.specs.Lists.{length-tabulate, get_or-tabulate}
 use Rattle.laws.specs.SetWalk.{Filled}
-use Rattle.laws.specs.declared.Found.{Found}
-use Rattle.laws.specs.declared.Found.TheVariants.{At, Nothing}
 use Rattle.ports.specs.Ports.{mask_ports, has}
 use Rattle.rules.specs.declared.Cell.{Cell}
 use Rattle.rules.specs.Cells.{most_ports, nth, output_of, cells_of, same_output}
@@ -64,14 +62,14 @@ module _ {n : ℕ} {ws : List ℕ} (order : Orderly n ws) (r : List ℕ) {us : L
   chosen : ℕ → ℕ → Bool
   chosen o k = match_of n r cs k && same_output (nth cs k).output (output_of o)
 
-  shown_word : (o : ℕ) (x : Found) → Least (chosen o) ltb (length cs) x → cond (has q.outputs o) (suc (get_or ns o 0)) 0 ≡ served_word cs x
+  shown_word : (o : ℕ) (x : Option ℕ) → Least (chosen o) ltb (length cs) x → cond (has q.outputs o) (suc (get_or ns o 0)) 0 ≡ served_word cs x
   unfolding chosen same_output is_taken_output
-  shown_word o (At k) d =
+  shown_word o (Some k) d =
       let b = both (match_of n r cs k) _ d.1 in
       let e : (nth cs k).output.0 ≡ o = eqb-true _ _ b.1 in
       cond_true _ (suc (get_or ns o 0)) 0 (s.outputs o ∙ →any (chosen o) (length cs) k d.0 d.1)
       ∙ ap suc (ap (λ (i : ℕ). get_or ns i 0) (sym e) ∙ s.served k d.0 b.0)
-  shown_word o Nothing d =
+  shown_word o None d =
       cond_false _ (suc (get_or ns o 0)) 0 (s.outputs o ∙ to_no (λ x. let k = any→ (chosen o) (length cs) x in d k.0 k.1 k.2))
 
   pub shows-words : (vs : List ℕ) → length vs ≡ n → Written (has q.outputs) ns vs → vs ≡ match_words n (match_of n r (cells_of ws)) (cells_of ws)

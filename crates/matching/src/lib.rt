@@ -13,7 +13,6 @@ ghost use Rattle.matching.specs.Picking.{first_candidate, Takes, Picked};
 ghost use Rattle.matching.specs.Rounds.{first_for, first_among, is_servable, Lows, Kept};
 ghost use Rattle.matching.specs.Transfer.{Writable, Written, Transferred};
 
-use laws::Found;
 use ports::Tied;
 use queues::QUEUE_WORDS;
 use rules::{Input, Output, PORT_COUNT};
@@ -27,12 +26,12 @@ struct Taken {
 }
 
 // Of the waiting cells for an output, at inputs that are not taken, the oldest: a look at the heads.
-fn first_for(table: &[u32], queues: &[u16], inputs: u16, o: Output) -> Found
+fn first_for(table: &[u32], queues: &[u16], inputs: u16, o: Output) -> Option<usize>
     requires o_lt_most_ports { o.0 < most_ports }
     requires queues { Queues All (cells_of table.now) queues.now }
     ensures { result ≡ first_for (has inputs) o.0 (cells_of table.now) }
 {
-    let mut found = Found::Nothing;
+    let mut found = None;
     let mut left = ports::except(queues::senders_for(queues, o), inputs);
     while left != 0 {
         let i = ports::lowest(left);
@@ -73,11 +72,11 @@ fn lowest_readings(table: &[u32], queues: &[u16], r: Reading, taken: Taken) -> u
 }
 
 // Of the waiting cells for some outputs, at inputs that are not taken, the oldest.
-fn first_among(table: &[u32], queues: &[u16], inputs: u16, outputs: u16) -> Found
+fn first_among(table: &[u32], queues: &[u16], inputs: u16, outputs: u16) -> Option<usize>
     requires { Queues All (cells_of table.now) queues.now }
     ensures { result ≡ first_among (has inputs) (has outputs) (cells_of table.now) }
 {
-    let mut found = Found::Nothing;
+    let mut found = None;
     let mut left = outputs;
     while left != 0 {
         let o = ports::lowest(left);
@@ -90,7 +89,7 @@ fn first_among(table: &[u32], queues: &[u16], inputs: u16, outputs: u16) -> Foun
 // What a round finds, and the outputs that it looked at, for the next round.
 #[derive(Clone, Copy)]
 struct Candidate {
-    found: Found,
+    found: Option<usize>,
     lows: u16,
 }
 
@@ -105,9 +104,9 @@ fn first_candidate(table: &[u32], queues: &[u16], r: Reading, taken: Taken, lows
 {
     let kept = ports::except(lows, taken.outputs);
     let found = first_among(table, queues, taken.inputs, kept);
-    if let Found::At(k) = found {
+    if let Some(k) = found {
         return Candidate {
-            found: Found::At(k),
+            found: Some(k),
             lows: kept,
         };
     }
@@ -162,7 +161,7 @@ fn pick(
         let candidate = first_candidate(table, queues, r, taken, lows);
         lows = candidate.lows;
         let found = candidate.found;
-        let Found::At(k) = found else {
+        let Some(k) = found else {
             break 'rounds;
         };
         taken = take(table, queues, served, k, taken);

@@ -1,6 +1,6 @@
 -- The laws of sets of ports: what shifts, masks and sums of digits compute, how many ports are in a set, and that a set is what its members say.
 -- Assumes nothing.
-use Rattle.std.specs.Prelude.{◌≡◌, refl, Bool, false, not, ◌&&◌, ℕ, zero, suc, ◌+◌, ◌-◌, ◌*◌, ◌/◌, ◌%◌, ◌^◌, ◌≤◌, ◌<◌, min, max, eqb, ltb}
+use Rattle.std.specs.Prelude.{◌≡◌, refl, Bool, false, not, ◌&&◌, ℕ, zero, suc, ◌+◌, ◌-◌, ◌*◌, ◌/◌, ◌%◌, ◌^◌, ◌≤◌, ◌<◌, min, max, eqb, ltb, Some}
 use Rattle.std.proofs.Common.{sym, ap, ◌∙◌, subst, ⊎_elim, suc-le-suc, div-one, mod-lt, zero-lt-suc, pow-suc, mul-div_cancel, mod-eq_of_lt, one-mul, le_of_suc-le-suc, not-suc-le-zero, one-add, arith, eqb-true, lt-ltb, shr-shr}
 use Rattle.std.proofs.Math.Path.{fun_ext}
 use Rattle.std.proofs.Math.Bool.{So}
@@ -16,7 +16,6 @@ use Rattle.laws.specs.Count.{bit, count, count_zero, count_suc}
 use Rattle.laws.specs.Least.{Least, lowest, lowest_hit}
 use Rattle.laws.proofs.Least.{lowest_is, lowest_nothing, least_at}
 use Rattle.laws.specs.SetWalk.{nobody, also, also_is, Walked, walk_more, walk_all}
-use Rattle.laws.specs.declared.Found.TheVariants.{At}
 use Rattle.ports.specs.Ports.{mask_ports, digit, has, with_port, without_port, except_ports, Added, Removed, Except, Lowest, Visits}
 
 two_pos : zero < 2
@@ -253,22 +252,22 @@ trailing_low (suc k) m p h = go (λ q. trailing_low k (m / 2) q (half_below m k 
     go rest (suc zero) e = (zero-lt-suc k, digit_zero m ∙ sym e, (λ q l. absurd (not-suc-le-zero l)))
     go rest (suc (suc d)) e = absurd (omega (arith, mod-lt m two_pos))
 
-lowest_low : {m r : ℕ} → Lowest m r → lowest (has m) mask_ports ≡ At r
+lowest_low : {m r : ℕ} → Lowest m r → lowest (has m) mask_ports ≡ Some r
 lowest_low {m} {r} l = lowest_hit (has m) r mask_ports l.small (lowest_nothing (has m) r l.least) l.inside
 
-pub lowest_by_trailing : (m : ℕ) → 0 < m → m < 2 ^ mask_ports → lowest (has m) mask_ports ≡ At (count_trailing_zeros mask_ports m)
+pub lowest_by_trailing : (m : ℕ) → 0 < m → m < 2 ^ mask_ports → lowest (has m) mask_ports ≡ Some (count_trailing_zeros mask_ports m)
 lowest_by_trailing m p h =
     let t : Low mask_ports m (count_trailing_zeros mask_ports m) = trailing_low mask_ports m p h in
     lowest_low (record { small = t.0; inside = of_one m _ t.1; least = λ q l. of_zero m q (t.2 q l) })
 
-pub lowest_port : {m r : ℕ} → lowest (has m) mask_ports ≡ At r → Lowest m r
+pub lowest_port : {m r : ℕ} → lowest (has m) mask_ports ≡ Some r → Lowest m r
 lowest_port {m} {r} e =
     let at = least_at (has m) ltb mask_ports r e in
-    let is : Least (has m) ltb mask_ports (At r) = rw e at (lowest_is (has m) mask_ports) in
+    let is : Least (has m) ltb mask_ports (Some r) = rw e at (lowest_is (has m) mask_ports) in
     record { small = at.0; inside = at.1; least = λ q l. to_no (λ x. refuted (lt-ltb q r l) (is.2 q (omega (arith, at.0)) x)) }
 
 -- A walk over a set takes its lowest port out, again and again; as a number the set gets less.
-pub visits : {m o rest : ℕ} → lowest (has m) mask_ports ≡ At o → rest ≡ without_port m o → Visits m o rest
+pub visits : {m o rest : ℕ} → lowest (has m) mask_ports ≡ Some o → rest ≡ without_port m o → Visits m o rest
 unfolding without_port
 visits {m} {o} e q =
     let l = lowest_port e in

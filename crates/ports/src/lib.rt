@@ -4,7 +4,6 @@
 ghost use Rattle.std.specs.Prelude.{◌≡◌, true, ◌<◌};
 ghost use Rattle.laws.specs.Count.{count};
 ghost use Rattle.laws.specs.Least.{lowest as lowest_of};
-ghost use Rattle.laws.specs.declared.Found.TheVariants.{At};
 ghost use Rattle.ports.specs.Ports.{mask_ports, has, with_port, without_port, except_ports, lowered};
 
 // How many ports a mask has room for: its binary digits.
@@ -59,7 +58,7 @@ pub fn size(mask: u16) -> u32
 #[tactic(auto, using(crate::specs::PortLaws::lowest_by_trailing))]
 pub fn lowest(mask: u16) -> u32
     requires { 0 < mask }
-    ensures { lowest_of (has mask) mask_ports ≡ At result }
+    ensures { lowest_of (has mask) mask_ports ≡ Some result }
 {
     u16::trailing_zeros(mask)
 }

@@ -5,9 +5,8 @@ use Rattle.std.specs.Prelude.{ℕ, ◌+◌, ◌*◌, cond, List, [], ◌∷◌, 
 use Rattle.laws.specs.Lists.{blocks}
 use Rattle.laws.specs.Pieces.{part}
 use Rattle.rules.specs.declared.Switch.{Switch}
-use Rattle.rules.specs.declared.Answer.{Answer}
 use Rattle.rules.specs.Cells.{switch, width, cells_of}
-use Rattle.rules.specs.Answers.{lists, number_of, is_done, exhaled_width, live}
+use Rattle.rules.specs.Answers.{Answer, lists, number_of, is_done, exhaled_width, live}
 use Rattle.rules.specs.Calls.{Started, fresh_start, Outcome, slot, State}
 use Rattle.text.specs.declared.FirstLine.{FirstLine}
 use Rattle.text.specs.declared.FirstLine.TheVariants.{Numbers, Unreadable}

@@ -1,6 +1,6 @@
 -- The chains: a record joins the top of its pair's, and from the top down each record of the pair is met.
 -- Assumes nothing.
-use Rattle.std.specs.Prelude.{ℕ, suc, ◌+◌, ◌<◌, ◌≤◌, ◌≡◌, ◌⊎◌, Bool, not, cond, ◌&&◌, List, ltb, length, get_or, set}
+use Rattle.std.specs.Prelude.{ℕ, suc, ◌+◌, ◌<◌, ◌≤◌, ◌≡◌, ◌⊎◌, Bool, not, cond, ◌&&◌, List, ltb, length, get_or, set, Option, Some, None}
 use Rattle.std.proofs.Math.Path.{refl}
 use Rattle.std.proofs.Common.{sym, ap, ◌∙◌, subst, inl, inr, ⊎_elim, arith, add-one}
 use Rattle.std.proofs.Math.Bool.{So, true, false}
@@ -14,8 +14,6 @@ use Rattle.laws.specs.Order.{ranks_on}
 use Rattle.laws.specs.Least.{Below}
 use Rattle.laws.specs.First.{First, first_found, first_alike, first_below}
 use Rattle.laws.proofs.First.{first_join, first-least}
-use Rattle.laws.specs.declared.Found.{Found}
-use Rattle.laws.specs.declared.Found.TheVariants.{At, Nothing}
 use Rattle.rules.specs.declared.Input.{Input}
 use Rattle.rules.specs.declared.Output.{Output}
 use Rattle.rules.specs.declared.Cell.{Cell}
@@ -123,12 +121,12 @@ class_other cs k h = cond_false (is_waiting (nth cs k)) (pair_of (nth cs k)) pai
 -- Down a chain -----------------------------------------------------------------------------------
 
 -- found is the oldest waiting cell of the pair from the record that v names up; v names one of the pair, or none
-pub record Looked (cl : ℕ → ℕ) (table : List ℕ) (i o v : ℕ) (found : Found) : Type 0 where
+pub record Looked (cl : ℕ → ℕ) (table : List ℕ) (i o v : ℕ) (found : Option ℕ) : Type 0 where
   pub within : v ≤ records table
   pub member : (k : ℕ) → v ≡ suc k → cl k ≡ pair i o
   pub first : First (λ j. not (ltb j v) && waits_for i o (nth (cells_of table) j)) (older_at (cells_of table)) (length (cells_of table)) found
 
-pub looked_below : {cl : ℕ → ℕ} {table : List ℕ} {i o v : ℕ} {found : Found} → Looked cl table i o v found → Below (records table) found
+pub looked_below : {cl : ℕ → ℕ} {table : List ℕ} {i o v : ℕ} {found : Option ℕ} → Looked cl table i o v found → Below (records table) found
 looked_below {cl} {table} {i} {o} {v} {found} s =
     rw (length-cells_of table) at (first_below (λ j. not (ltb j v) && waits_for i o (nth (cells_of table) j)) (older_at (cells_of table)) _ found s.first)
 
@@ -161,7 +159,7 @@ module _ {table qs : List ℕ} {input : Input} {output : Output} (stale : Stale 
       let y = q.covers j l h in
       →waits i o (nth cs j) h (omega (arith, x, y, e, less)) (omega (arith, x, y, e, less))
 
-  pub looked_top : {v : ℕ} → v ≡ top_word qs (pair input.0 output.0) → Looked stale.queues.cl table input.0 output.0 v Nothing
+  pub looked_top : {v : ℕ} → v ≡ top_word qs (pair input.0 output.0) → Looked stale.queues.cl table input.0 output.0 v None
   looked_top e =
       let t = q.chains.tops (pair i o) (omega (arith, small, less)) in
       rw e (record {
@@ -172,7 +170,7 @@ module _ {table qs : List ℕ} {input : Input} {output : Output} (stale : Stale 
             t.highest j (ltb-false j _ (denied _ b.0)) l (of_class j l b.1);
       })
 
-  module _ (k : ℕ) (found : Found) (s : Looked stale.queues.cl table input.0 output.0 (suc k) found) where
+  module _ (k : ℕ) (found : Option ℕ) (s : Looked stale.queues.cl table input.0 output.0 (suc k) found) where
     here : k < length cs
     here = rw (length-cells_of table) s.within
 
@@ -184,7 +182,7 @@ module _ {table qs : List ℕ} {input : Input} {output : Output} (stale : Stale 
     unfolding waiting_at
     alone = go (is_waiting (nth cs k)) refl
       where
-        go : (b : Bool) → is_waiting (nth cs k) ≡ b → First (λ j. eqb j k && waits_for i o (nth cs j)) (older_at cs) (length cs) (cond b (At k) Nothing)
+        go : (b : Bool) → is_waiting (nth cs k) ≡ b → First (λ j. eqb j k && waits_for i o (nth cs j)) (older_at cs) (length cs) (cond b (Some k) None)
         go true e = (
           here,
           join _ _ (eqb_self k) (in_class k here (s.member k refl) e),
@@ -227,12 +225,12 @@ module _ {table qs : List ℕ} {input : Input} {output : Output} (stale : Stale 
             (passes (eqb j k))
 
   -- the same, in the words of the code
-  pub looked_on : (v k : ℕ) (found : Found) → v ≡ suc k → Looked stale.queues.cl table input.0 output.0 v found
-      → let next : Found = first_found (older_at (cells_of table)) found (waiting_at (cells_of table) k) in
+  pub looked_on : (v k : ℕ) (found : Option ℕ) → v ≡ suc k → Looked stale.queues.cl table input.0 output.0 v found
+      → let next : Option ℕ = first_found (older_at (cells_of table)) found (waiting_at (cells_of table) k) in
       (next_word qs k < v) × Looked stale.queues.cl table input.0 output.0 (next_word qs k) next
   looked_on v k found e s = let u = rw e at s in (omega (arith, (next k found u).within, e), looked_next k found u)
 
-  pub looked_all : (v : ℕ) (found : Found) → v ≡ 0 → Looked stale.queues.cl table input.0 output.0 v found
+  pub looked_all : (v : ℕ) (found : Option ℕ) → v ≡ 0 → Looked stale.queues.cl table input.0 output.0 v found
       → found ≡ head_of (cells_of table) input.0 output.0
   unfolding head_below
   looked_all v found z s =

@@ -1,7 +1,7 @@
 -- The heads: what a new one leaves of the others, and how they change where a cell is picked and its pair's head is found anew.
 -- Assumes nothing.
 use Prim.Native.Nat.{ℕ, ◌+◌, ◌<◌, ◌≤◌}
-use Rattle.std.specs.Prelude.{◌≡◌, Bool, not, ◌&&◌, eqb, length}
+use Rattle.std.specs.Prelude.{◌≡◌, Bool, not, ◌&&◌, eqb, length, Option, Some, None}
 use Rattle.std.proofs.Math.Path.{refl, sym, ap}
 use Rattle.std.proofs.Common.{◌∙◌, subst, arith, eqb-true}
 use Rattle.std.proofs.Math.Logic.{⊎_elim}
@@ -14,8 +14,6 @@ use Rattle.std.proofs.lemmas.List.{set-get_or}
 use Rattle.laws.specs.Tests.{No, passes, fails_right, same_test}
 use Rattle.laws.specs.Least.{least_below, Below, below_wider}
 use Rattle.laws.proofs.Least.{least-same}
-use Rattle.laws.specs.declared.Found.{Found}
-use Rattle.laws.specs.declared.Found.TheVariants.{At, Nothing}
 use Rattle.ports.specs.Ports.{has, with_port, except_ports}
 use Rattle.ports.specs.PortLaws.{has-none, added, added_kept, excepted}
 use Rattle.rules.specs.declared.Input.{Input}
@@ -39,7 +37,7 @@ head_below_lem cs k i o = least_below _ _ k
 -- A new head ----------------------------------------------------------------------------------
 
 -- qs become ns by a head of a pair, x
-pub record HeadSet (qs : List ℕ) (i o : ℕ) (x : Found) (ns : List ℕ) : Type 0 where
+pub record HeadSet (qs : List ℕ) (i o : ℕ) (x : Option ℕ) (ns : List ℕ) : Type 0 where
   pub long : length ns ≡ length qs
   pub head : head_word ns i o ≡ name_of x
   pub sends : has (senders ns o) i ≡ is_found x
@@ -52,7 +50,7 @@ pub record HeadSet (qs : List ℕ) (i o : ℕ) (x : Found) (ns : List ℕ) : Typ
 
 module _ (qs : List ℕ) (i o : ℕ) (long : length qs ≡ queue_words) (small : i < most_ports) (less : o < most_ports) where
   -- with m for the output's senders and w for the wanted outputs
-  module _ (x : Found) (m w : ℕ) (here : has m i ≡ is_found x) (there : (a : ℕ) → (a ≡ i → ⊥) → has m a ≡ has (senders qs o) a)
+  module _ (x : Option ℕ) (m w : ℕ) (here : has m i ≡ is_found x) (there : (a : ℕ) → (a ≡ i → ⊥) → has m a ≡ has (senders qs o) a)
       (want : So (is_found x) → So (has w o)) (keep : (b : ℕ) → So (has (wanted qs) b) → So (has w b)) where
     one : List ℕ
     one = set qs (pair i o) (name_of x)
@@ -121,19 +119,19 @@ module _ (qs : List ℕ) (i o : ℕ) (long : length qs ≡ queue_words) (small :
         λ a n. e.each a ∙ ap (λ (b : Bool). has (senders qs o) a && not b) (d.others a n ∙ has-none a) ∙ and-true (has (senders qs o) a),
       )
 
-  pub head_set_lem : (x : Found) → HeadSet qs i o x (head_set qs i o x)
+  pub head_set_lem : (x : Option ℕ) → HeadSet qs i o x (head_set qs i o x)
   unfolding head_set
-  head_set_lem (At k) =
+  head_set_lem (Some k) =
       let s = added {r = with_port (senders qs o) i} refl in
       let w = added {r = with_port (wanted qs) o} refl in
-      set_by (At k) (with_port (senders qs o) i) (with_port (wanted qs) o) s.inside s.others (λ f. w.inside) (added_kept w)
-  head_set_lem Nothing =
+      set_by (Some k) (with_port (senders qs o) i) (with_port (wanted qs) o) s.inside s.others (λ f. w.inside) (added_kept w)
+  head_set_lem None =
       let m : ℕ = except_ports (senders qs o) (with_port 0 i) in
       let ms : List ℕ = set (set qs (pair i o) 0) (sender_sets + o) m in
       let w : get_or ms wanted_set 0 ≡ wanted qs =
       get_or-set_other (set qs (pair i o) 0) (sender_sets + o) wanted_set m 0 (omega arith) ∙ get_or-set_other qs (pair i o) wanted_set 0 0 (omega arith) in
       rw (set-get_or ms wanted_set 0) at
-      (set_by Nothing m (get_or ms wanted_set 0) taken_out.0 taken_out.1 (λ f. absurd (false≢true f)) (λ b d. ap (λ (v : ℕ). has v b) w ∙ d))
+      (set_by None m (get_or ms wanted_set 0) taken_out.0 taken_out.1 (λ f. absurd (false≢true f)) (λ b d. ap (λ (v : ℕ). has v b) w ∙ d))
 
 -- The head of one pair is found anew -------------------------------------------------------------
 

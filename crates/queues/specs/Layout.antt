@@ -1,10 +1,8 @@
 -- The queues' list of words: where each part begins, and what a word names. `QUEUE_WORDS` and the others of the code are the same numbers.
 -- Assumes nothing.
-use Rattle.std.specs.Prelude.{ℕ, zero, suc, ◌+◌, ◌-◌, ◌*◌, ◌<◌, ◌≡◌, refl, Bool, true, false, List, get_or, replicate}
+use Rattle.std.specs.Prelude.{ℕ, zero, suc, ◌+◌, ◌-◌, ◌*◌, ◌<◌, ◌≡◌, refl, Bool, true, false, List, get_or, replicate, Option, Some, None}
 use Rattle.std.proofs.Common.{ap, arith}
 use Rattle.std.proofs.lemmas.List.{get_or-replicate}
-use Rattle.laws.specs.declared.Found.{Found}
-use Rattle.laws.specs.declared.Found.TheVariants.{At, Nothing}
 use Rattle.rules.specs.declared.Cell.{Cell}
 use Rattle.rules.specs.Cells.{most_ports, most_records}
 
@@ -62,22 +60,22 @@ pub zero_word : (i : ℕ) → i < queue_words → ◌≡◌ {A = ℕ} (get_or no
 zero_word i l = get_or-replicate queue_words i 0 0 l
 
 -- a record is named by its number + 1; 0 names none
-abbrev pub name_of : Found → ℕ
-name_of (At k) = suc k
-name_of Nothing = 0
+abbrev pub name_of : Option ℕ → ℕ
+name_of (Some k) = suc k
+name_of None = 0
 
-abbrev pub named : ℕ → Found
-named zero = Nothing
-named (suc k) = At k
+abbrev pub named : ℕ → Option ℕ
+named zero = None
+named (suc k) = Some k
 
-pub named_name : (x : Found) → named (name_of x) ≡ x
-named_name (At k) = refl
-named_name Nothing = refl
+pub named_name : (x : Option ℕ) → named (name_of x) ≡ x
+named_name (Some k) = refl
+named_name None = refl
 
-pub named_word : (w : ℕ) → (w ≡ 0 → ⊥) → At (w - 1) ≡ named w
+pub named_word : (w : ℕ) → (w ≡ 0 → ⊥) → Some (w - 1) ≡ named w
 named_word zero h = absurd (h refl)
-named_word (suc k) h = ap At (omega arith)
+named_word (suc k) h = ap Some (omega arith)
 
-abbrev pub is_found : Found → Bool
-is_found (At k) = true
-is_found Nothing = false
+abbrev pub is_found : Option ℕ → Bool
+is_found (Some k) = true
+is_found None = false

@@ -2,7 +2,7 @@
 -- nothing, and that the words of all records say of the table what queues say.
 -- Assumes nothing.
 use Prim.Native.Nat.{ℕ, zero, suc, ◌+◌, ◌<◌, ◌≤◌}
-use Rattle.std.specs.Prelude.{◌≡◌, Bool, eqb, length, get_or}
+use Rattle.std.specs.Prelude.{◌≡◌, Bool, eqb, length, get_or, Option, Some, None}
 use Rattle.std.proofs.Math.Path.{refl, sym, ap, ap₂}
 use Rattle.std.proofs.Common.{◌∙◌, ⊎_elim, arith}
 use Rattle.std.proofs.Math.Bool.{So}
@@ -17,8 +17,6 @@ use Rattle.laws.specs.Tests.{No, passes, refuted, to_no, cond_true, cond_false}
 use Rattle.laws.specs.Walk.{over, over_more}
 use Rattle.laws.specs.Least.{least_zero, least_more, least_below, Below, below_wider, sooner, sooner_skip}
 use Rattle.laws.specs.First.{first_found, first_found-sooner}
-use Rattle.laws.specs.declared.Found.{Found}
-use Rattle.laws.specs.declared.Found.TheVariants.{At, Nothing}
 use Rattle.ports.specs.Ports.{has}
 use Rattle.ports.specs.PortLaws.{has-none}
 use Rattle.rules.specs.declared.Cell.{Cell}
@@ -45,13 +43,13 @@ module _ (cs : List Cell) (k : ℕ) {c : Cell} (e : c ≡ nth cs k) where
   unfolding is_waiting
   not-waiting h = rw (← e, ne_eqb _ _ h)
 
-  pub waiting_here : c.place ≡ 1 → waiting_at cs k ≡ At k
+  pub waiting_here : c.place ≡ 1 → waiting_at cs k ≡ Some k
   unfolding waiting_at
-  waiting_here h = cond_true (is_waiting (nth cs k)) (At k) Nothing (is_waiting_lem h)
+  waiting_here h = cond_true (is_waiting (nth cs k)) (Some k) None (is_waiting_lem h)
 
-  pub waiting_none : (c.place ≡ 1 → ⊥) → waiting_at cs k ≡ Nothing
+  pub waiting_none : (c.place ≡ 1 → ⊥) → waiting_at cs k ≡ None
   unfolding waiting_at
-  waiting_none h = cond_false (is_waiting (nth cs k)) (At k) Nothing (not-waiting h)
+  waiting_none h = cond_false (is_waiting (nth cs k)) (Some k) None (not-waiting h)
 
 -- One more record --------------------------------------------------------------------------------
 
@@ -83,7 +81,7 @@ module _ (cs : List Cell) (k i o : ℕ) where
   head_join h =
       least_more _ _ k ∙ ap (λ (b : Bool). sooner (older_at cs) (head_below cs k i o) b k) h
       ∙ sym (first_found-sooner (older_at cs) (head_below cs k i o) k (least_below _ _ k))
-      ∙ sym (ap (first_found (older_at cs) (head_below cs k i o)) (cond_true (is_waiting (nth cs k)) (At k) Nothing (waits→ i o (nth cs k) h).0))
+      ∙ sym (ap (first_found (older_at cs) (head_below cs k i o)) (cond_true (is_waiting (nth cs k)) (Some k) None (waits→ i o (nth cs k) h).0))
 
 -- what does not wait changes nothing
 lined_skip : {cs : List Cell} {k : ℕ} {qs : List ℕ} → No (is_waiting (nth cs k)) → LinedTo cs k qs → LinedTo cs (k + 1) qs
@@ -141,7 +139,7 @@ module _ {table : List ℕ} {k : ℕ} {qs : List ℕ} (j : Joinable table k qs) 
       ∙ named_name (head_below cs k i o)
 
   is_head : new_head cs k ms ≡ head_below cs (k + 1) i o
-  is_head = ap (λ (x : Found). first_found (older_at cs) x (waiting_at cs k)) was_head ∙ sym (head_join cs k i o (→waits i o (nth cs k) w refl refl))
+  is_head = ap (λ (x : Option ℕ). first_found (older_at cs) x (waiting_at cs k)) was_head ∙ sym (head_join cs k i o (→waits i o (nth cs k) w refl refl))
 
   set_new : HeadSet ms i o (new_head cs k ms) (compared cs k ms)
   unfolding compared
@@ -205,16 +203,16 @@ module _ {table : List ℕ} {k : ℕ} {qs : List ℕ} (j : Joinable table k qs) 
     pub long_then : length us ≡ queue_words
     long_then = ap length are_chained ∙ joins_long
 
-    module _ {x : Found} (head : x ≡ named (head_word us c.input.0 c.output.0)) where
+    module _ {x : Option ℕ} (head : x ≡ named (head_word us c.input.0 c.output.0)) where
       is_old : x ≡ old_head cs k ms
       is_old = head ∙ ap (λ (d : Cell). named (head_word us d.input.0 d.output.0)) read ∙ ap (old_head cs k) are_chained
 
       pub old_below : Below (records table) x
       old_below = rw (is_old, was_head) (below_wider k (records table) (head_below cs k i o) (omega (arith, j.inside)) (head_below_lem cs k i o))
 
-      module _ {y : Found} (older : y ≡ first_found (older_at (cells_of table)) x (waiting_at (cells_of table) k)) where
+      module _ {y : Option ℕ} (older : y ≡ first_found (older_at (cells_of table)) x (waiting_at (cells_of table) k)) where
         is_new : y ≡ new_head cs k ms
-        is_new = older ∙ ap (λ (v : Found). first_found (older_at cs) v (waiting_at cs k)) is_old
+        is_new = older ∙ ap (λ (v : Option ℕ). first_found (older_at cs) v (waiting_at cs k)) is_old
 
         pub new_below : Below most_records y
         new_below = rw (is_new, is_head) (below_wider (k + 1) most_records (head_below cs (k + 1) i o) (omega (arith, names)) (head_below_lem cs (k + 1) i o))
@@ -222,7 +220,7 @@ module _ {table : List ℕ} {k : ℕ} {qs : List ℕ} (j : Joinable table k qs) 
         pub joined_by : {ns : List ℕ} → ns ≡ head_set us c.input.0 c.output.0 y → ns ≡ joined (cells_of table) k qs
         unfolding compared
         joined_by e =
-            e ∙ ap (λ (d : Cell). head_set us d.input.0 d.output.0 y) read ∙ ap₂ (λ (v : List ℕ) (h : Found). head_set v i o h) are_chained is_new
+            e ∙ ap (λ (d : Cell). head_set us d.input.0 d.output.0 y) read ∙ ap₂ (λ (v : List ℕ) (h : Option ℕ). head_set v i o h) are_chained is_new
             ∙ sym (joined_waits cs k qs w)
 
 -- All records ------------------------------------------------------------------------------------

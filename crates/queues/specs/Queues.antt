@@ -1,14 +1,12 @@
 -- The waiting cells by pair of input and output: what the words of the list say of a table, how they come to say it, and what the calls ask for.
 -- Assumes nothing.
-use Rattle.std.specs.Prelude.{ℕ, suc, ◌+◌, ◌<◌, ◌≤◌, ◌≡◌, Bool, cond, ◌&&◌, List, eqb, length, set}
+use Rattle.std.specs.Prelude.{ℕ, suc, ◌+◌, ◌<◌, ◌≤◌, ◌≡◌, Bool, cond, ◌&&◌, List, eqb, length, set, Option, Some, None}
 use Rattle.std.proofs.Math.Bool.{So}
 use Rattle.std.proofs.Common.{eqb-true, eq-eqb}
 use Rattle.laws.specs.Tests.{both, join}
 use Rattle.laws.specs.Walk.{over}
 use Rattle.laws.specs.Least.{least}
 use Rattle.laws.specs.First.{first_found}
-use Rattle.laws.specs.declared.Found.{Found}
-use Rattle.laws.specs.declared.Found.TheVariants.{At, Nothing}
 use Rattle.ports.specs.Ports.{has, with_port, except_ports}
 use Rattle.rules.specs.declared.Input.{Input}
 use Rattle.rules.specs.declared.Output.{Output}
@@ -37,10 +35,10 @@ unfolding waits_for
 →waits i o c h a b = join _ _ (join _ _ h (eq-eqb _ _ a)) (eq-eqb _ _ b)
 
 -- of the cells of a pair among the first n records, the oldest
-unfoldable pub head_below : List Cell → ℕ → ℕ → ℕ → Found
+unfoldable pub head_below : List Cell → ℕ → ℕ → ℕ → Option ℕ
 head_below cs n i o = least (λ k. waits_for i o (nth cs k)) (older_at cs) n
 
-abbrev pub head_of : List Cell → ℕ → ℕ → Found
+abbrev pub head_of : List Cell → ℕ → ℕ → Option ℕ
 head_of cs i o = head_below cs (length cs) i o
 
 -- v names the highest record below b that is of pair p, where record k is of pair (cl k)
@@ -79,8 +77,8 @@ pub record Queues (P : ℕ → ℕ → Type 0) (cs : List Cell) (qs : List ℕ) 
 -- How they come to say it ------------------------------------------------------------------------
 
 -- record k, where it waits
-unfoldable pub waiting_at : List Cell → ℕ → Found
-waiting_at cs k = cond (is_waiting (nth cs k)) (At k) Nothing
+unfoldable pub waiting_at : List Cell → ℕ → Option ℕ
+waiting_at cs k = cond (is_waiting (nth cs k)) (Some k) None
 
 -- a waiting cell's pair; `pairs` for any other
 unfoldable pub class_of : List Cell → ℕ → ℕ
@@ -91,18 +89,18 @@ unfoldable pub linked : List ℕ → ℕ → ℕ → List ℕ
 linked qs p k = set (set qs (links + k) (top_word qs p)) (tops + p) (suc k)
 
 -- a pair gets another head, or none; an output that once was wanted stays so
-unfoldable pub head_set : List ℕ → ℕ → ℕ → Found → List ℕ
-head_set qs i o (At k) = set (set (set qs (pair i o) (suc k)) (sender_sets + o) (with_port (senders qs o) i)) wanted_set (with_port (wanted qs) o)
-head_set qs i o Nothing = set (set qs (pair i o) 0) (sender_sets + o) (except_ports (senders qs o) (with_port 0 i))
+unfoldable pub head_set : List ℕ → ℕ → ℕ → Option ℕ → List ℕ
+head_set qs i o (Some k) = set (set (set qs (pair i o) (suc k)) (sender_sets + o) (with_port (senders qs o) i)) wanted_set (with_port (wanted qs) o)
+head_set qs i o None = set (set qs (pair i o) 0) (sender_sets + o) (except_ports (senders qs o) (with_port 0 i))
 
 -- Record k joins: it becomes the top of its pair's chain, is compared with the head of its pair, and the older is the head.
 abbrev pub chained : List Cell → ℕ → List ℕ → List ℕ
 chained cs k qs = linked qs (pair_of (nth cs k)) k
 
-abbrev pub old_head : List Cell → ℕ → List ℕ → Found
+abbrev pub old_head : List Cell → ℕ → List ℕ → Option ℕ
 old_head cs k qs = named (head_word qs (nth cs k).input.0 (nth cs k).output.0)
 
-abbrev pub new_head : List Cell → ℕ → List ℕ → Found
+abbrev pub new_head : List Cell → ℕ → List ℕ → Option ℕ
 new_head cs k qs = first_found (older_at cs) (old_head cs k qs) (waiting_at cs k)
 
 unfoldable pub compared : List Cell → ℕ → List ℕ → List ℕ

@@ -13,7 +13,6 @@ ghost use Rattle.table.specs.Table.{older_at};
 ghost use Rattle.queues.specs.Layout.{pair, pairs, queue_words, named, head_word, senders, wanted};
 ghost use Rattle.queues.specs.Queues.{Ports, head_of, waiting_at, linked, head_set, joined, lined_up, Lineable, Joinable, Stale};
 
-use laws::Found;
 use rules::{Input, MOST_RECORDS, Output, PORT_COUNT};
 use sift::STRETCH;
 
@@ -39,16 +38,16 @@ fn pair_of(i: Input, o: Output) -> usize
 }
 
 // The head of a pair.
-pub fn head_of(queues: &[u16], i: Input, o: Output) -> Found
+pub fn head_of(queues: &[u16], i: Input, o: Output) -> Option<usize>
     requires queues_len { length queues.now ≡ queue_words }
     requires ports { Ports i o }
     ensures { result ≡ named (head_word queues.now i.0 o.0) }
 {
     let word = queues[pair_of(i, o)];
     if word == 0 {
-        return Found::Nothing;
+        return None;
     }
-    Found::At((word - 1) as usize)
+    Some((word - 1) as usize)
 }
 
 // The inputs that have a cell for an output.
@@ -71,7 +70,7 @@ pub fn wanted_outputs(queues: &[u16]) -> u16
 // Another head, or none, for a pair. One word is the head, one the set of inputs with this one added, or taken out where there is no head, one the set
 // of outputs.
 #[tactic(auto, unfolding(crate::specs::Queues::head_set))]
-fn set_head(queues: &mut [u16], i: Input, o: Output, found: Found)
+fn set_head(queues: &mut [u16], i: Input, o: Output, found: Option<usize>)
     requires queues_len { length queues.old ≡ queue_words }
     requires ports { Ports i o }
     requires below { Below most_records found }
@@ -81,7 +80,7 @@ fn set_head(queues: &mut [u16], i: Input, o: Output, found: Found)
     let at = SENDERS + (o.0 as usize);
     let inputs = queues[at];
     let outputs = queues[WANTED];
-    let Found::At(k) = found else {
+    let Some(k) = found else {
         queues[head] = 0;
         queues[at] = ports::except(inputs, ports::with(0, i.0));
         return;
@@ -105,7 +104,7 @@ fn link(queues: &mut [u16], p: usize, k: usize)
 }
 
 // Of what was found and record k, where that waits, the older.
-fn older_of(table: &[u32], found: Found, k: usize) -> Found
+fn older_of(table: &[u32], found: Option<usize>, k: usize) -> Option<usize>
     requires k_bound { k < records table.now }
     requires below { Below (records table.now) found }
     ensures { result ≡ first_found (older_at (cells_of table.now)) found (waiting_at (cells_of table.now) k) }
@@ -114,15 +113,15 @@ fn older_of(table: &[u32], found: Found, k: usize) -> Found
     if c.place != 1 {
         return found;
     }
-    table::older_finding(table, found, Found::At(k))
+    table::older_finding(table, found, Some(k))
 }
 
 // The oldest waiting cell of a pair, looked for along its chain.
-fn look(table: &[u32], queues: &[u16], i: Input, o: Output) -> Found
+fn look(table: &[u32], queues: &[u16], i: Input, o: Output) -> Option<usize>
     requires { Stale table.now queues.now i o }
     ensures { result ≡ head_of (cells_of table.now) i.0 o.0 }
 {
-    let mut found = Found::Nothing;
+    let mut found = None;
     let mut word = queues[TOPS + pair_of(i, o)];
     while word != 0 {
         let k = (word - 1) as usize;

@@ -1,12 +1,11 @@
 -- Records laid out as words one word after the other: what holds after j words, and that all are laid once there is none left to lay.
 -- A scan of words laid out answers as the scan of the records.
 -- Assumes nothing.
-use Rattle.std.specs.Prelude.{ℕ, ◌+◌, ◌*◌, ◌/◌, ◌%◌, ◌<◌, ◌≤◌, ◌≡◌, List, eqb, leb, length, get_or, set, take}
+use Rattle.std.specs.Prelude.{ℕ, ◌+◌, ◌*◌, ◌/◌, ◌%◌, ◌<◌, ◌≤◌, ◌≡◌, List, eqb, leb, length, get_or, set, take, Option}
 use Rattle.std.proofs.Common.{sym, ap, ◌∙◌, ⊎_elim, arith, length-set, ext_get_or, get_or-take, get_or-set_same, get_or-set_other, length-take-le, leb-true, leb-false, le-leb, eqb-true}
 use Rattle.std.proofs.lemmas.Bool.{lt-leb, eqb-false}
 use Rattle.laws.specs.Tests.{passes}
 use Rattle.laws.specs.Lists.{sets_inside}
-use Rattle.laws.specs.declared.Found.{Found}
 use Rattle.rules.specs.declared.Cell.{Cell}
 use Rattle.rules.specs.Cells.{most_records, width, records, nth, fields, cells_of, words_of}
 use Rattle.words.specs.Words.{length-words_of, words_of-at}
@@ -70,15 +69,15 @@ all_laid cs j ws l laid = record { long = laid.long; words = λ few. known few (
         (λ i h. get_or-take (length cs * width) ws i 0 (omega arith) ∙ laid.same i (omega arith))
 
 -- ---- what a scan answers
-pub too_many : (n : ℕ) (f : Found) → most_records < n → TooMany ≡ answered n f
+pub too_many : (n : ℕ) (f : Option ℕ) → most_records < n → TooMany ≡ answered n f
 unfolding answered
 too_many n f l = rw (lt-leb n most_records l)
 
-pub not_too_many : (n : ℕ) (f : Found) → n ≤ most_records → finding_of f ≡ answered n f
+pub not_too_many : (n : ℕ) (f : Option ℕ) → n ≤ most_records → finding_of f ≡ answered n f
 unfolding answered
 not_too_many n f l = rw (le-leb n most_records l)
 
-pub scanned : (scan : List Cell → Found) (cs : List Cell) (n : ℕ) (ws : List ℕ) → length cs ≡ n → Laid cs ws
+pub scanned : (scan : List Cell → Option ℕ) (cs : List Cell) (n : ℕ) (ws : List ℕ) → length cs ≡ n → Laid cs ws
     → answered n (scan (cells_of (take (n * width) ws))) ≡ answered n (scan cs)
 scanned scan cs n ws e laid = ⊎_elim (λ h. few (leb-true n most_records h)) (λ h. many (leb-false n most_records h)) (passes (leb n most_records))
   where

@@ -1,27 +1,26 @@
 -- The scans of the rules over a lent slice of records, and the records laid out as words.
 -- Assumes nothing.
-use Rattle.std.specs.Prelude.{ℕ, ◌*◌, ◌≤◌, ◌≡◌, cond, List, leb, length, take}
+use Rattle.std.specs.Prelude.{ℕ, ◌*◌, ◌≤◌, ◌≡◌, cond, List, leb, length, take, Option}
 use Rattle.std.proofs.Math.Bool.{So}
-use Rattle.laws.specs.declared.Found.{Found}
-use Rattle.laws.specs.declared.Found.TheVariants as found
+use Rattle.laws.specs.declared.Option ℕ.TheVariants as found
 use Rattle.rules.specs.declared.Output.{Output}
 use Rattle.rules.specs.declared.Cell.{Cell}
 use Rattle.rules.specs.Cells.{most_records, width, is_whole, cells_of, words_of}
 use Rattle.rules.specs.Phases.{lowest_free, oldest_ready}
 use Rattle.words.proofs.Words.{cells_of-words_of, words_of-cells_of}
 use Rattle.records.specs.declared.Finding.{Finding}
-use Rattle.records.specs.declared.Finding.TheVariants.{At, Nothing, TooMany}
+use Rattle.records.specs.declared.Finding.TheVariants.{Some, None, TooMany}
 
-abbrev pub finding_of : Found → Finding
-finding_of (found.At k) = At k
-finding_of found.Nothing = Nothing
+abbrev pub finding_of : Option ℕ → Finding
+finding_of (found.Some k) = Some k
+finding_of found.None = None
 
 -- the words of as many records as a table may have: `MOST_WORDS` of the source
 abbrev pub most_words : ℕ
 most_words = most_records * width
 
 -- what was found in a list of n records, where there are not too many
-unfoldable pub answered : ℕ → Found → Finding
+unfoldable pub answered : ℕ → Option ℕ → Finding
 answered n f = cond (leb n most_records) (finding_of f) TooMany
 
 unfoldable pub lowest_free_of : List Cell → Finding

@@ -7,7 +7,6 @@ ghost use Rattle.rules.specs.Cells.{most_records, width, fields, cells_of};
 ghost use Rattle.rules.specs.Phases.{lowest_free, oldest_ready};
 ghost use Rattle.records.specs.Records.{finding_of, answered, lowest_free_of, oldest_ready_of, words_to_lay, Laid};
 
-use laws::Found;
 use rules::{Cell, Output};
 
 // The words of as many records as a table may have.
@@ -21,12 +20,12 @@ pub enum Finding {
     TooMany,
 }
 
-fn told(found: Found) -> Finding
+fn told(found: Option<usize>) -> Finding
     ensures { result ≡ finding_of found }
 {
     match found {
-        Found::At(k) => Finding::At(k),
-        Found::Nothing => Finding::Nothing,
+        Some(k) => Finding::At(k),
+        None => Finding::Nothing,
     }
 }
 

@@ -1,24 +1,31 @@
 -- Document 01, "Lists" and "Numbers given back": what each number means, and the checks in the order of the table.
 -- Assumes nothing.
-use Rattle.std.specs.Prelude.{ℕ, ◌+◌, ◌*◌, Bool, not, cond, ◌&&◌, ◌||◌, List, [], ◌∷◌, ◌++◌, ltb, eqb, length, get_or}
+use Rattle.std.specs.Prelude.{ℕ, ◌+◌, ◌*◌, Bool, not, cond, ◌&&◌, ◌||◌, List, [], ◌∷◌, ◌++◌, ltb, eqb, length, get_or, Result, Ok, Err}
 use Rattle.laws.specs.Count.{count, any}
 use Rattle.rules.specs.declared.Cell.{Cell}
 use Rattle.rules.specs.declared.Switch.{Switch}
-use Rattle.rules.specs.declared.Answer.{Answer}
-use Rattle.rules.specs.declared.Answer.TheVariants.{Done, BadPorts, BadSpeedup, BadRecords, Unfit, BadLists, NoSuchOutput, ClockSpent, NoRoom}
+use Rattle.rules.specs.declared.Refusal.{Refusal}
+use Rattle.rules.specs.declared.Refusal.TheVariants.{BadPorts, BadSpeedup, BadRecords, Unfit, BadLists, NoSuchOutput, ClockSpent, NoRoom}
 use Rattle.rules.specs.Cells.{most_ports, most_speedup, most_records, last_slot, nth, is_live, is_whole, records, cells_of, fit}
+
+-- what a call answers: that it is done, or why it is refused
+abbrev pub Answer : Type 0
+Answer = Result Unit Refusal
+
+abbrev pub done : Answer
+done = Ok tt
 
 -- "0 means done", and the number of each refusal
 abbrev pub number_of : Answer → ℕ
-number_of Done = 0
-number_of BadPorts = 1
-number_of BadSpeedup = 2
-number_of BadRecords = 3
-number_of Unfit = 4
-number_of BadLists = 5
-number_of NoSuchOutput = 6
-number_of ClockSpent = 7
-number_of NoRoom = 8
+number_of (Ok u) = 0
+number_of (Err BadPorts) = 1
+number_of (Err BadSpeedup) = 2
+number_of (Err BadRecords) = 3
+number_of (Err Unfit) = 4
+number_of (Err BadLists) = 5
+number_of (Err NoSuchOutput) = 6
+number_of (Err ClockSpent) = 7
+number_of (Err NoRoom) = 8
 
 unfoldable pub is_done : Answer → Bool
 is_done a = eqb (number_of a) 0
@@ -72,12 +79,12 @@ pub record Check : Type 0 where
   pub holds : Bool
   pub answer : Answer
 
-abbrev pub row : Bool → Answer → Check
-row b a = record { holds = b; answer = a }
+abbrev pub row : Bool → Refusal → Check
+row b r = record { holds = b; answer = Err r }
 
 -- "the first that holds is the answer, and none is given otherwise"
 unfoldable pub first_of : List Check → Answer
-first_of [] = Done
+first_of [] = done
 first_of (c ∷ cs) = cond c.holds c.answer (first_of cs)
 
 -- The rows, in groups. A group is checked as one, and a row that is added is added to its group.

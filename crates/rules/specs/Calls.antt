@@ -3,10 +3,8 @@
 use Rattle.std.specs.Prelude.{ℕ, suc, cond, List, [], ◌∷◌, length, replicate}
 use Rattle.rules.specs.declared.Cell.{Cell}
 use Rattle.rules.specs.declared.Switch.{Switch}
-use Rattle.rules.specs.declared.Answer.{Answer}
-use Rattle.rules.specs.declared.Answer.TheVariants.{Done}
 use Rattle.rules.specs.Cells.{at_slot, cells_of, words_of}
-use Rattle.rules.specs.Answers.{Lists, is_done, fresh_answer, slot_answer}
+use Rattle.rules.specs.Answers.{Answer, Lists, done, is_done, fresh_answer, slot_answer}
 use Rattle.rules.specs.Phases.{inhale, readings, phases, matches, exhale, exhaled}
 
 -- "makes t 0"; "an accepted slot raises t by 1, nothing else there changes"
@@ -25,7 +23,7 @@ pub record Started : Type 0 where
 
 -- "handed the wanted N and S among these numbers, does not look at t, and makes t 0 and every record free"
 abbrev pub starts_fresh : Switch → List ℕ → Started
-starts_fresh w table = record { answer = Done; numbers = restarted w; table = replicate (length table) 0 }
+starts_fresh w table = record { answer = done; numbers = restarted w; table = replicate (length table) 0 }
 
 -- "A refusal returns the switch's numbers as they came and leaves the table .. as found"
 abbrev pub start_refused : Answer → Switch → List ℕ → Started
@@ -56,7 +54,7 @@ slot_runs w table arrivals =
     let full : List Cell = entered w arrivals (cells_of table) in
     let ready : List Cell = transferred w full in
     record {
-      answer = Done;
+      answer = done;
       numbers = raised w;
       table = words_of (exhale w.ports ready);
       matches = matches w.ports (readings full) full w.speedup;

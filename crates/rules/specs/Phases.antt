@@ -1,12 +1,10 @@
 -- Document 01, "One slot, t": inhale, reading, transfer phases with their match, exhale. A set of records is a test of their numbers.
 -- Assumes nothing.
-use Rattle.std.specs.Prelude.{ℕ, suc, pred, Bool, false, not, cond, ◌&&◌, ◌||◌, List, [], ◌∷◌, ltb, eqb, length, set}
+use Rattle.std.specs.Prelude.{ℕ, suc, pred, Bool, false, not, cond, ◌&&◌, ◌||◌, List, [], ◌∷◌, ltb, eqb, length, set, Option, Some, None}
 use Rattle.laws.specs.Walk.{over}
 use Rattle.laws.specs.Count.{count, any}
 use Rattle.laws.specs.Least.{least, lowest, is_at}
 use Rattle.laws.specs.Lists.{tabulate, blocks}
-use Rattle.laws.specs.declared.Found.{Found}
-use Rattle.laws.specs.declared.Found.TheVariants.{At, Nothing}
 use Rattle.rules.specs.declared.Input.{Input}
 use Rattle.rules.specs.declared.Output.{Output}
 use Rattle.rules.specs.declared.Slot.{Slot}
@@ -17,7 +15,7 @@ use Rattle.rules.specs.Answers.{arrives, first_word, tag_word}
 -- 1. Inhale ------------------------------------------------------------------------------------
 
 -- "the lowest-numbered free record"
-unfoldable pub lowest_free : List Cell → Found
+unfoldable pub lowest_free : List Cell → Option ℕ
 lowest_free cs = lowest (λ k. is_free (nth cs k)) (length cs)
 
 -- the cell that arrives at input i: "waiting, slot t"
@@ -25,9 +23,9 @@ abbrev pub arrival : Slot → List ℕ → ℕ → Cell
 arrival t arrivals i = cell 1 (input_of i) (output_of (pred (first_word arrivals i))) t (tag_word arrivals i)
 
 -- the table with c in the record that was found
-abbrev pub store_at : Found → Cell → List Cell → List Cell
-store_at (At k) c cs = set cs k c
-store_at Nothing c cs = cs
+abbrev pub store_at : Option ℕ → Cell → List Cell → List Cell
+store_at (Some k) c cs = set cs k c
+store_at None c cs = cs
 
 -- "each arriving cell takes the lowest-numbered free record"
 unfoldable pub enter : Slot → List ℕ → ℕ → List Cell → List Cell
@@ -58,7 +56,7 @@ unfoldable pub is_open : List Cell → (ℕ → Bool) → ℕ → Bool
 is_open cs picked k = is_waiting (nth cs k) && not (any (λ j. picked j && conflict (nth cs j) (nth cs k)) (length cs))
 
 -- of those, the one that stands before the others
-unfoldable pub first_open : List ℕ → List Cell → (ℕ → Bool) → Found
+unfoldable pub first_open : List ℕ → List Cell → (ℕ → Bool) → Option ℕ
 first_open r cs picked = least (is_open cs picked) (λ i j. before r (nth cs i) (nth cs j)) (length cs)
 
 -- no record, and a set with one record more
@@ -69,9 +67,9 @@ unfoldable pub add : (ℕ → Bool) → ℕ → ℕ → Bool
 add picked k j = picked j || eqb j k
 
 -- the set with the record that was found
-abbrev pub add_found : (ℕ → Bool) → Found → ℕ → Bool
-add_found picked (At k) = add picked k
-add_found picked Nothing = picked
+abbrev pub add_found : (ℕ → Bool) → Option ℕ → ℕ → Bool
+add_found picked (Some k) = add picked k
+add_found picked None = picked
 
 -- a round of picking; once no waiting cell is free of conflict, a round picks nothing
 unfoldable pub round : List ℕ → List Cell → (ℕ → Bool) → ℕ → Bool
@@ -105,9 +103,9 @@ unfoldable pub phases : ℕ → List ℕ → List Cell → ℕ → List Cell
 phases n r cs j = over (λ i u. phase n r u) cs j
 
 -- "0, or 1 + the input served"
-abbrev pub served_word : List Cell → Found → ℕ
-served_word cs (At k) = suc (nth cs k).input.0
-served_word cs Nothing = 0
+abbrev pub served_word : List Cell → Option ℕ → ℕ
+served_word cs (Some k) = suc (nth cs k).input.0
+served_word cs None = 0
 
 -- a phase's words, "For each output"
 unfoldable pub match_words : ℕ → (ℕ → Bool) → List Cell → List ℕ
@@ -120,7 +118,7 @@ matches n r cs s = blocks s (λ j. let u : List Cell = phases n r cs j in match_
 -- 4. Exhale ------------------------------------------------------------------------------------
 
 -- "of its ready cells, the first by slot and then input"
-unfoldable pub oldest_ready : List Cell → Output → Found
+unfoldable pub oldest_ready : List Cell → Output → Option ℕ
 oldest_ready cs o = least (λ k. is_ready_for o (nth cs k)) (λ i j. older (nth cs i) (nth cs j)) (length cs)
 
 -- record k is what its output emits
@@ -132,9 +130,9 @@ unfoldable pub exhale : ℕ → List Cell → List Cell
 exhale n cs = tabulate (length cs) (λ k. cond (is_emitted n cs k) free (nth cs k))
 
 -- "1, input, slot of entry, tag; or four zeros"
-abbrev pub emitted_words : List Cell → Found → List ℕ
-emitted_words cs (At k) = 1 ∷ (nth cs k).input.0 ∷ (nth cs k).entered.0 ∷ (nth cs k).tag ∷ []
-emitted_words cs Nothing = 0 ∷ 0 ∷ 0 ∷ 0 ∷ []
+abbrev pub emitted_words : List Cell → Option ℕ → List ℕ
+emitted_words cs (Some k) = 1 ∷ (nth cs k).input.0 ∷ (nth cs k).entered.0 ∷ (nth cs k).tag ∷ []
+emitted_words cs None = 0 ∷ 0 ∷ 0 ∷ 0 ∷ []
 
 -- "Exhaled: 4N words. For each output"
 unfoldable pub exhaled : ℕ → List Cell → List ℕ

@@ -1,9 +1,10 @@
-// The kinds of number of the report, a cell, the switch's numbers and what a call answers. The rules themselves stand in specs/.
+// The kinds of number of the report, a cell, the switch's numbers and why a call is refused. The rules themselves stand in specs/.
 #![tactic(auto)]
 
-ghost use Rattle.std.specs.Prelude.{◌≡◌, ◌<◌};
-ghost use Rattle.rules.specs.Answers.{number_of, is_done};
+ghost use Rattle.std.specs.Prelude.{◌≡◌, ◌<◌, Err};
+ghost use Rattle.rules.specs.Answers.{number_of};
 ghost use Rattle.rules.specs.Calls.{restarted, raised};
+ghost use Rattle.rules.specs.Cells.{is_free, is_waiting, is_ready, is_ready_for, older, fields, free};
 
 // The largest numbers; `most_ports` and the others of specs/Cells.antt are the same for contracts.
 pub const MOST_PORTS: u32 = 16;
@@ -24,18 +25,25 @@ pub const EXHALED_WORDS: usize = 4;
 // The length of a list with a place for each port.
 pub const PORT_COUNT: usize = MOST_PORTS as usize;
 
+// The places of a record: free, waiting (input unit) and ready (output unit). A word that was lent may be any other number, and the table is unfit then.
+pub const FREE: u32 = 0;
+
+pub const WAITING: u32 = 1;
+
+pub const READY: u32 = 2;
+
 // "An input number is never compared with an output number; slot numbers are a third kind": three types.
-#[derive(Clone, Copy)]
+#[derive(Clone, Copy, Debug, Default, PartialEq, Eq, PartialOrd, Ord)]
 pub struct Input(pub u32);
 
-#[derive(Clone, Copy)]
+#[derive(Clone, Copy, Debug, Default, PartialEq, Eq, PartialOrd, Ord)]
 pub struct Output(pub u32);
 
-#[derive(Clone, Copy)]
+#[derive(Clone, Copy, Debug, Default, PartialEq, Eq, PartialOrd, Ord)]
 pub struct Slot(pub u32);
 
-// A record of the cell table. Place 0 is free, 1 waiting (input unit), 2 ready (output unit).
-#[derive(Clone, Copy)]
+// A record of the cell table. The default one is free, all zeros.
+#[derive(Clone, Copy, Debug, Default, PartialEq, Eq)]
 pub struct Cell {
     pub place: u32,
     pub input: Input,
@@ -44,8 +52,56 @@ pub struct Cell {
     pub tag: u32,
 }
 
+impl Cell {
+    #[tactic(auto, unfolding(crate::specs::Cells::is_free))]
+    pub fn is_free(self) -> bool
+        ensures { result ≡ is_free self }
+    {
+        self.place == FREE
+    }
+
+    #[tactic(auto, unfolding(crate::specs::Cells::is_waiting))]
+    pub fn is_waiting(self) -> bool
+        ensures { result ≡ is_waiting self }
+    {
+        self.place == WAITING
+    }
+
+    #[tactic(auto, unfolding(crate::specs::Cells::is_ready))]
+    pub fn is_ready(self) -> bool
+        ensures { result ≡ is_ready self }
+    {
+        self.place == READY
+    }
+
+    // Whether the cell is in the unit of output o.
+    #[tactic(auto, unfolding(crate::specs::Cells::is_ready_for, crate::specs::Cells::is_ready, crate::specs::Cells::same_output))]
+    pub fn is_ready_for(self, o: Output) -> bool
+        ensures { result ≡ is_ready_for o self }
+    {
+        self.is_ready() && self.output == o
+    }
+
+    // Whether the cell stands before another by slot and then input.
+    #[tactic(auto, unfolding(crate::specs::Cells::older))]
+    pub fn is_older_than(self, other: Cell) -> bool
+        ensures { result ≡ older self other }
+    {
+        (self.entered, self.input) < (other.entered, other.input)
+    }
+}
+
+// A record as it lies in the table: `fields` of specs/Cells.antt.
+impl From<Cell> for [u32; RECORD_WORDS] {
+    ghost from_gives = { λ c ws. ws ≡ fields c };
+
+    fn from(c: Cell) -> [u32; RECORD_WORDS] {
+        [c.place, c.input.0, c.output.0, c.entered.0, c.tag]
+    }
+}
+
 // The switch's numbers N, S and t.
-#[derive(Clone, Copy)]
+#[derive(Clone, Copy, Debug, PartialEq, Eq)]
 pub struct Switch {
     pub ports: u32,
     pub speedup: u32,
@@ -57,10 +113,10 @@ impl Switch {
     pub fn restarted(self) -> Switch
         ensures { result ≡ restarted self }
     {
-        let mut w = self;
-        let next = Slot(0);
-        w.next = next;
-        w
+        Switch {
+            next: Slot(0),
+            ..self
+        }
     }
 
     // The numbers after an accepted slot: the next slot raised by 1, nothing else changed.
@@ -68,18 +124,17 @@ impl Switch {
         requires { self.next.0 < 4294967295 }
         ensures { result ≡ raised self }
     {
-        let mut w = self;
-        let next = Slot(self.next.0 + 1);
-        w.next = next;
-        w
+        Switch {
+            next: Slot(self.next.0 + 1),
+            ..self
+        }
     }
 }
 
-// What a call answers; `number_of` of specs/Answers.antt gives the paper's number for each.
-#[derive(Clone, Copy)]
-pub enum Answer {
-    Done,
-    BadPorts,
+// Why a call is refused, in the order of the checks. Each has the paper's number, which `number_of` of specs/Answers.antt gives; 0 means done.
+#[derive(Clone, Copy, Debug, PartialEq, Eq)]
+pub enum Refusal {
+    BadPorts = 1,
     BadSpeedup,
     BadRecords,
     Unfit,
@@ -89,28 +144,21 @@ pub enum Answer {
     NoRoom,
 }
 
-impl Answer {
+impl Refusal {
     // The paper's number.
     pub fn number(self) -> u32
-        ensures { result ≡ number_of self }
+        ensures { result ≡ number_of (Err self) }
     {
-        match self {
-            Answer::Done => 0,
-            Answer::BadPorts => 1,
-            Answer::BadSpeedup => 2,
-            Answer::BadRecords => 3,
-            Answer::Unfit => 4,
-            Answer::BadLists => 5,
-            Answer::NoSuchOutput => 6,
-            Answer::ClockSpent => 7,
-            Answer::NoRoom => 8,
-        }
+        self as u32
     }
+}
 
-    #[tactic(auto, unfolding(crate::specs::Answers::is_done))]
-    pub fn is_done(self) -> bool
-        ensures { result ≡ is_done self }
-    {
-        self.number() == 0
+// The paper's number of what a call answers.
+pub fn number_of(answer: Result<(), Refusal>) -> u32
+    ensures { result ≡ number_of answer }
+{
+    match answer {
+        Ok(()) => 0,
+        Err(refusal) => refusal.number(),
     }
 }

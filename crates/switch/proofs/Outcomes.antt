@@ -1,10 +1,9 @@
 -- What a call leaves, from its answer: all as found where that is a refusal, and otherwise what the rules say.
 use Rattle.std.specs.Prelude.{◌≡◌, ◌≢◌, ℕ, true, false, List, length, replicate}
 use Rattle.std.proofs.Common.{sym, ap, ◌∙◌, refl}
-use Rattle.rules.specs.declared.Answer.{Answer}
 use Rattle.rules.specs.declared.Switch.{Switch}
 use Rattle.rules.specs.Cells.{last_slot}
-use Rattle.rules.specs.Answers.{Lists, is_done, fresh_answer, slot_answer}
+use Rattle.rules.specs.Answers.{Answer, Lists, is_done, fresh_answer, slot_answer}
 use Rattle.rules.specs.Calls.{Started, Outcome, restarted, raised, start_refused, fresh_start, slot_runs, slot_refused, slot}
 use Rattle.ideal.specs.Calls.{Accepted, accepted→, fresh_accepted, fresh_refused, fresh_is_done, slot_accepted, slot_refused_lem, slot_is_done}
 use Rattle.checks.specs.Checks.{group_passed, group_refused}

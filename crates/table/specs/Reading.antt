@@ -1,6 +1,6 @@
 -- The reading, counted record by record, and the oldest ready cell: passes over the ready records alone.
 -- Assumes nothing.
-use Rattle.std.specs.Prelude.{ℕ, ◌+◌, ◌%◌, ◌≤◌, ◌<◌, ◌≡◌, Bool, ◌&&◌, List, length, replicate}
+use Rattle.std.specs.Prelude.{ℕ, ◌+◌, ◌%◌, ◌≤◌, ◌<◌, ◌≡◌, Bool, ◌&&◌, List, length, replicate, Option}
 use Rattle.std.proofs.Math.Path.{refl, sym}
 use Rattle.std.proofs.Common.{ap, ◌∙◌}
 use Rattle.std.proofs.Math.Logic.{⊎_elim}
@@ -18,7 +18,6 @@ use Rattle.laws.specs.Count.{bit, count, count_zero, count_suc, count_le}
 use Rattle.laws.specs.Lists.{tabulate, length-tabulate, get_or-tabulate, tabulate-same, tabulate-get_or, set-tabulate}
 use Rattle.laws.specs.Least.{sooner, least, least_more, sooner_skip}
 use Rattle.laws.specs.Bits.{and_none}
-use Rattle.laws.specs.declared.Found.{Found}
 use Rattle.rules.specs.declared.Cell.{Cell}
 use Rattle.rules.specs.declared.Output.{Output}
 use Rattle.rules.specs.Cells.{most_ports, output_of, nth, records, cells_of, is_ready, same_output, is_ready_for}
@@ -143,11 +142,11 @@ pub counted_le : {ws ns : List ℕ} {k : ℕ} → Counted ws ns k → (o : ℕ) 
 counted_le {ws} {ns} {k} c o = rw c.are (readings_le (cells_of ws) k o)
 
 -- Of the ready cells of an output the first by age, found record by record: what was found below record k, or record k
-abbrev pub older_ready : List Cell → Output → Found → ℕ → Found
+abbrev pub older_ready : List Cell → Output → Option ℕ → ℕ → Option ℕ
 older_ready cs o found k = sooner (older_at cs) found (is_ready_for o (nth cs k)) k
 
 -- of those below record k
-abbrev pub oldest_below : List Cell → Output → ℕ → Found
+abbrev pub oldest_below : List Cell → Output → ℕ → Option ℕ
 oldest_below cs o k = least (λ i. is_ready_for o (nth cs i)) (older_at cs) k
 
 oldest_skip : (cs : List Cell) (o : Output) (k : ℕ) → ((nth cs k).place ≡ 2 → ⊥) → oldest_below cs o k ≡ oldest_below cs o (k + 1)
@@ -155,9 +154,9 @@ unfolding is_ready_for is_ready
 oldest_skip cs o k h = sym (least_more _ _ k ∙ sooner_skip _ k (oldest_below cs o k) _ (rw (ne_eqb _ _ h)))
 
 -- and the same pass: what was found below record k
-pub record OldestFound (ws : List ℕ) (o : Output) (found : Found) (k : ℕ) : Type 0 where
+pub record OldestFound (ws : List ℕ) (o : Output) (found : Option ℕ) (k : ℕ) : Type 0 where
   pub is : found ≡ oldest_below (cells_of ws) o k
 
-pub oldest_keeps : {ws : List ℕ} {o : Output} {found : Found} (x : ℕ) → x < records ws → bit_and (nth (cells_of ws) x).place ready_bit ≡ 0
+pub oldest_keeps : {ws : List ℕ} {o : Output} {found : Option ℕ} (x : ℕ) → x < records ws → bit_and (nth (cells_of ws) x).place ready_bit ≡ 0
     → OldestFound ws o found x → OldestFound ws o found (x + 1)
 oldest_keeps {ws} {o} x l h c = record { is = c.is ∙ oldest_skip (cells_of ws) o x (and_none _ ready_bit (omega arith) h) }

@@ -1,6 +1,6 @@
 -- What a store leaves in the lent words, and where no record is free.
 -- Assumes nothing.
-use Rattle.std.specs.Prelude.{ℕ, ◌+◌, ◌<◌, ◌≤◌, ◌≡◌, Bool, List, set}
+use Rattle.std.specs.Prelude.{ℕ, ◌+◌, ◌<◌, ◌≤◌, ◌≡◌, Bool, List, set, Some, None}
 use Rattle.std.proofs.Common.{◌∙◌, arith, add-one, length-set, eq-eqb, ne_eqb}
 use Rattle.std.proofs.Math.Bool.{So}
 use Rattle.std.proofs.Math.ListN.{length}
@@ -8,7 +8,6 @@ use Rattle.laws.specs.Tests.{No}
 use Rattle.laws.specs.Walk.{below_suc}
 use Rattle.laws.specs.Least.{lowest_hit}
 use Rattle.laws.proofs.Least.{lowest_nothing}
-use Rattle.laws.specs.declared.Found.TheVariants.{At, Nothing}
 use Rattle.rules.specs.declared.Cell.{Cell}
 use Rattle.rules.specs.Cells.{nth, is_free, is_live, records, cells_of, older}
 use Rattle.rules.specs.Phases.{lowest_free}
@@ -59,11 +58,11 @@ module _ {ws : List ℕ} {k : ℕ} (b : NoneBelow ws k) where
     none = rw (add-one k) (below_suc (λ j. No (is_free (nth (cells_of ws) j))) k b.none (rw (← e) (ne_eqb _ _ h)));
   }
 
-  pub first-free : {c : Cell} → k < records ws → c ≡ nth (cells_of ws) k → c.place ≡ 0 → lowest_free (cells_of ws) ≡ At k
+  pub first-free : {c : Cell} → k < records ws → c ≡ nth (cells_of ws) k → c.place ≡ 0 → lowest_free (cells_of ws) ≡ Some k
   unfolding is_free lowest_free
   first-free {c} l e h = lowest_hit _ k (length (cells_of ws)) (rw (length-cells_of ws) l) (lowest_nothing _ k b.none) (rw (← e) (eq-eqb _ _ h))
 
-  pub none_free : records ws ≤ k → lowest_free (cells_of ws) ≡ Nothing
+  pub none_free : records ws ≤ k → lowest_free (cells_of ws) ≡ None
   unfolding lowest_free
   none_free l = let e : length (cells_of ws) ≡ k = omega (arith, length-cells_of ws, b.inside) in rw e (lowest_nothing _ k b.none)
 

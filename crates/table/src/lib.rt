@@ -13,7 +13,6 @@ ghost use Rattle.rules.specs.Phases.{lowest_free, readings, oldest_ready};
 ghost use Rattle.table.specs.Table.{stored, NoneBelow, older_at};
 ghost use Rattle.table.specs.Reading.{bumped, is_counted, older_ready};
 
-use laws::Found;
 use rules::{Cell, Input, Output, Slot};
 
 // How many whole records the words are.
@@ -122,26 +121,26 @@ fn is_older(a: Cell, b: Cell) -> bool
 }
 
 // Of two findings the one with the older cell; the lower-numbered where neither is older.
-pub fn older_finding(table: &[u32], a: Found, b: Found) -> Found
+pub fn older_finding(table: &[u32], a: Option<usize>, b: Option<usize>) -> Option<usize>
     requires a_below { Below (records table.now) a }
     requires b_below { Below (records table.now) b }
     ensures { result ≡ first_found (older_at (cells_of table.now)) a b }
 {
-    let Found::At(j) = a else {
+    let Some(j) = a else {
         return b;
     };
-    let Found::At(k) = b else {
-        return Found::At(j);
+    let Some(k) = b else {
+        return Some(j);
     };
     let c = cell_at(table, j);
     let d = cell_at(table, k);
     if is_older(d, c) {
-        return Found::At(k);
+        return Some(k);
     }
     if is_older(c, d) {
-        return Found::At(j);
+        return Some(j);
     }
-    if k < j { Found::At(k) } else { Found::At(j) }
+    if k < j { Some(k) } else { Some(j) }
 }
 
 // Whether c is in the unit of output o.
@@ -157,7 +156,7 @@ fn is_ready_for(c: Cell, o: Output) -> bool
 }
 
 // The lowest-numbered free record, looked for from a record on below which none is free.
-pub fn next_free(table: &[u32], from: usize) -> Found
+pub fn next_free(table: &[u32], from: usize) -> Option<usize>
     requires { NoneBelow table.now from }
     ensures { result ≡ lowest_free (cells_of table.now) }
 {
@@ -166,22 +165,22 @@ pub fn next_free(table: &[u32], from: usize) -> Found
     while k < n {
         let c = cell_at(table, k);
         if c.place == 0 {
-            return Found::At(k);
+            return Some(k);
         }
         k += 1;
     }
-    Found::Nothing
+    None
 }
 
 // The lowest-numbered free record.
-pub fn lowest_free(table: &[u32]) -> Found
+pub fn lowest_free(table: &[u32]) -> Option<usize>
     ensures { result ≡ lowest_free (cells_of table.now) }
 {
     next_free(table, 0)
 }
 
 // One turn of `oldest_ready`: what was found below record k, or record k.
-fn older_of(table: &[u32], o: Output, found: Found, k: usize) -> Found
+fn older_of(table: &[u32], o: Output, found: Option<usize>, k: usize) -> Option<usize>
     requires k_bound { k < records table.now }
     requires below { Below k found }
     ensures { result ≡ older_ready (cells_of table.now) o found k }
@@ -190,23 +189,23 @@ fn older_of(table: &[u32], o: Output, found: Found, k: usize) -> Found
     if !is_ready_for(c, o) {
         return found;
     }
-    let Found::At(j) = found else {
-        return Found::At(k);
+    let Some(j) = found else {
+        return Some(k);
     };
     let best = cell_at(table, j);
     if is_older(c, best) {
-        Found::At(k)
+        Some(k)
     } else {
-        Found::At(j)
+        Some(j)
     }
 }
 
 // Of the ready cells of an output, the first by slot and then input.
-pub fn oldest_ready(table: &[u32], o: Output) -> Found
+pub fn oldest_ready(table: &[u32], o: Output) -> Option<usize>
     ensures { result ≡ oldest_ready (cells_of table.now) o }
 {
     let n = record_count(table);
-    let mut found = Found::Nothing;
+    let mut found = None;
     let mut list = [0u8; sift::STRETCH];
     let mut k = 0;
     'stretches: while k < n {

@@ -15,12 +15,12 @@ unfolding first_word
 returns-in_default c = no_room _ _ _ _ c.requires.none_below c.if-word-eq0.false (sym c.in_default.ensures)
 
 pub put_cell-requires : goal.put_cell-requires
-put_cell-requires c = room_inside _ _ (sym c.in-At.ensures)
+put_cell-requires c = room_inside _ _ (sym c.in-Some.ensures)
 
 pub overflow_add-result : goal.overflow_add-result
 unfolding records
-overflow_add-result c = omega (arith, room_inside _ _ (sym c.in-At.ensures))
+overflow_add-result c = omega (arith, room_inside _ _ (sym c.in-Some.ensures))
 
 pub returns : goal.returns
 unfolding first_word tag_word
-returns c = takes_room _ _ _ _ _ (sym c.in-At.ensures) _ c.if-word-eq0.false (rw sub-one at c.put_cell.ensures)
+returns c = takes_room _ _ _ _ _ (sym c.in-Some.ensures) _ c.if-word-eq0.false (rw sub-one at c.put_cell.ensures)

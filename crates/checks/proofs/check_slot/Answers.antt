@@ -4,8 +4,7 @@ use Rattle.std.specs.Prelude.{ℕ, ◌*◌, ◌≤◌, ◌≡◌, false, List, �
 use Rattle.std.proofs.Common.{sym, ◌∙◌, refl, arith}
 use Rattle.std.proofs.Math.Bool.{So}
 use Rattle.rules.specs.declared.Switch.{Switch}
-use Rattle.rules.specs.declared.Answer.{Answer}
-use Rattle.rules.specs.Answers.{Lists, arrival_width, is_done, Check, first_of, slot_answer}
+use Rattle.rules.specs.Answers.{Answer, Lists, arrival_width, is_done, Check, first_of, slot_answer}
 use Rattle.rules.specs.Answers.{size_checks, table_checks, list_checks, arrival_checks, clock_checks, room_checks}
 use Rattle.ideal.specs.Refusals.{refuses, group_stops, group_goes_on}
 use Rattle.ideal.specs.Calls.{sizes_passed, lists_passed}

@@ -8,12 +8,12 @@ rounds-init c = rounds_none _ _ _ _ _ _ c.requires.ready.queues refl refl c.requ
 
 pub take-taken-requires : goal.take-taken-requires
 take-taken-requires c =
-    rounds_take c.rounds.invariant c.first_candidate-candidate.ensures.first c.in-At.is c.requires.ready.orderly
+    rounds_take c.rounds.invariant c.first_candidate-candidate.ensures.first c.in-Some.is c.requires.ready.orderly
 
 pub rounds-preserved : goal.rounds-preserved
 rounds-preserved c =
     let e = c.first_candidate-candidate.ensures in
-    rounds_more c.rounds.invariant e.first c.in-At.is c.requires.ready.orderly c.rounds-test.true e.kept_next c.take-taken.ensures
+    rounds_more c.rounds.invariant e.first c.in-Some.is c.requires.ready.orderly c.rounds-test.true e.kept_next c.take-taken.ensures
 
 pub returns-after-rounds : goal.returns-after-rounds
 returns-after-rounds c = rounds_all c.rounds.invariant (omega (arith, c.rounds.invariant.rounds))
