@@ -4,6 +4,7 @@ use Rattle.std.specs.Prelude.{◌≡◌, Bool, not, cond, ◌&&◌, ℕ, ◌-◌
 use Rattle.std.proofs.Math.Bool.{So}
 use Rattle.std.specs.Int.Bits.{bit_or, bit_and, bit_xor}
 use Rattle.laws.specs.Tests.{No}
+use Rattle.ports.specs.declared.PortSet.{PortSet}
 use Rattle.ports.specs.declared.Tied.{Tied}
 
 -- how many ports a set has room for: the binary digits of a mask
@@ -28,12 +29,16 @@ without_port m p = m - 2 ^ p
 unfoldable pub except_ports : ℕ → ℕ → ℕ
 except_ports m k = bit_xor m (bit_and m k)
 
+-- the set that a mask is
+abbrev pub set_of : ℕ → PortSet
+set_of m = record { mask = m }
+
 -- the ports with the lowest reading, once port p, whose reading is x, is among those looked at
 unfoldable pub lowered : Tied → ℕ → ℕ → Tied
 lowered l p x =
-    cond (eqb l.mask 0) (record { mask = with_port 0 p; reading = x })
-    (cond (ltb x l.reading) (record { mask = with_port 0 p; reading = x })
-    (cond (ltb l.reading x) l (record { mask = with_port l.mask p; reading = l.reading })))
+    cond (eqb l.ports.mask 0) (record { ports = set_of (with_port 0 p); reading = x })
+    (cond (ltb x l.reading) (record { ports = set_of (with_port 0 p); reading = x })
+    (cond (ltb l.reading x) l (record { ports = set_of (with_port l.ports.mask p); reading = l.reading })))
 
 -- What these sets are, by their members ----------------------------------------------------------
 
