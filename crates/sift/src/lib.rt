@@ -147,3 +147,7 @@ pub fn sift_records(
     let count = sift_blocks(table, k, size / BLOCK, bits, &mut blocks);
     sift_within(table, k, size, bits, &blocks, count, list)
 }
+
+mod walk;
+
+pub use walk::{Records, records_with};
