@@ -1,30 +1,23 @@
--- The queues' list of words: where each part begins, and what a word names. `QUEUE_WORDS` and the others of the code are the same numbers.
+-- The queues' parts, and what a word of them names. `PAIRS` and the others of the code are the same numbers.
 -- Assumes nothing.
-use Rattle.std.specs.Prelude.{ℕ, zero, suc, ◌+◌, ◌-◌, ◌*◌, ◌<◌, ◌≡◌, refl, Bool, true, false, List, get_or, replicate, Option, Some, None}
+use Rattle.std.specs.Prelude.{ℕ, zero, suc, ◌+◌, ◌-◌, ◌*◌, ◌<◌, ◌≡◌, refl, Bool, true, false, List, length, get_or, replicate, Option, Some, None}
 use Rattle.std.proofs.Common.{ap, arith}
-use Rattle.std.proofs.lemmas.List.{get_or-replicate}
 use Rattle.rules.specs.declared.Cell.{Cell}
 use Rattle.rules.specs.Cells.{most_ports, most_records}
+use Rattle.ports.specs.declared.PortSet.{PortSet}
+use Rattle.ports.specs.Ports.{set_of}
+use Rattle.queues.specs.declared.PairQueues.{PairQueues}
 
--- The parts, each behind the one before it: the pairs' heads, the tops of their chains, for each record the next lower one of its chain, for each
--- output its set of senders, and the set of wanted outputs.
+-- how many pairs of input and output there are
 abbrev pub pairs : ℕ
 pairs = most_ports * most_ports
 
-abbrev pub tops : ℕ
-tops = pairs
-
-abbrev pub links : ℕ
-links = tops + pairs
-
-abbrev pub sender_sets : ℕ
-sender_sets = links + most_records
-
-abbrev pub wanted_set : ℕ
-wanted_set = sender_sets + most_ports
-
-abbrev pub queue_words : ℕ
-queue_words = wanted_set + 1
+-- each part has a place for each pair, record or output
+pub record Long (qs : PairQueues) : Type 0 where
+  pub heads : length qs.heads ≡ pairs
+  pub tops : length qs.tops ≡ pairs
+  pub links : length qs.links ≡ most_records
+  pub senders : length qs.senders ≡ most_ports
 
 -- the number of a pair of input and output
 abbrev pub pair : ℕ → ℕ → ℕ
@@ -36,28 +29,31 @@ pair_of c = pair c.input.0 c.output.0
 pub same-pair : (x y i o : ℕ) → y < most_ports → o < most_ports → pair x y ≡ pair i o → (x ≡ i) × (y ≡ o)
 same-pair x y i o m l t = (omega arith, omega arith)
 
--- the words
-abbrev pub head_word : List ℕ → ℕ → ℕ → ℕ
-head_word qs i o = get_or qs (pair i o) 0
+-- the words of the parts
+abbrev pub head_word : PairQueues → ℕ → ℕ → ℕ
+head_word qs i o = get_or qs.heads (pair i o) 0
 
-abbrev pub top_word : List ℕ → ℕ → ℕ
-top_word qs p = get_or qs (tops + p) 0
+abbrev pub top_word : PairQueues → ℕ → ℕ
+top_word qs p = get_or qs.tops p 0
 
-abbrev pub next_word : List ℕ → ℕ → ℕ
-next_word qs k = get_or qs (links + k) 0
+abbrev pub next_word : PairQueues → ℕ → ℕ
+next_word qs k = get_or qs.links k 0
 
-abbrev pub senders : List ℕ → ℕ → ℕ
-senders qs o = get_or qs (sender_sets + o) 0
+abbrev pub senders : PairQueues → ℕ → ℕ
+senders qs o = (get_or qs.senders o (set_of 0)).mask
 
-abbrev pub wanted : List ℕ → ℕ
-wanted qs = get_or qs wanted_set 0
+abbrev pub wanted : PairQueues → ℕ
+wanted qs = qs.wanted.mask
 
--- the list before any record has joined
-abbrev pub no_queues : List ℕ
-no_queues = replicate queue_words 0
-
-pub zero_word : (i : ℕ) → i < queue_words → ◌≡◌ {A = ℕ} (get_or no_queues i 0) 0
-zero_word i l = get_or-replicate queue_words i 0 0 l
+-- the queues before any record has joined
+abbrev pub no_queues : PairQueues
+no_queues = record {
+  heads = replicate pairs 0;
+  tops = replicate pairs 0;
+  links = replicate most_records 0;
+  senders = replicate most_ports (set_of 0);
+  wanted = set_of 0;
+}
 
 -- a record is named by its number + 1; 0 names none
 abbrev pub name_of : Option ℕ → ℕ
