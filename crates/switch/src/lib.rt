@@ -8,80 +8,49 @@ ghost use Rattle.rules.specs.Calls.{fresh_start, slot, slot_runs};
 ghost use Rattle.ideal.specs.Calls.{Accepted};
 ghost use Rattle.switch.specs.Calls.{SlotRan};
 
-use rules::{Answer, Switch};
+use rules::{Refusal, Switch};
 
 // The switch as its owner holds it.
-#[derive(Clone, Copy)]
+#[derive(Clone, Copy, Debug, PartialEq, Eq)]
 pub struct Crossbar {
     pub numbers: Switch,
-}
-
-// What a call answers, and the switch to go on with.
-#[derive(Clone, Copy)]
-pub struct Outcome {
-    pub answer: Answer,
-    pub crossbar: Crossbar,
 }
 
 impl Crossbar {
     // Starts afresh with the numbers' N and S: next slot 0, every record free. Refused with 1, 2 or 3, and then nothing changes.
     #[tactic(auto, using(crate::proofs::Outcomes::start_stays, crate::proofs::Outcomes::start_goes))]
-    pub fn fresh_start(self, table: &mut [u32]) -> Outcome
-        ensures { record { answer = result.answer; numbers = result.crossbar.numbers; table = table.new }
-            ≡ fresh_start self.numbers table.old }
+    pub fn fresh_start(&mut self, table: &mut [u32]) -> Result<(), Refusal>
+        ensures { record { answer = result; numbers = self.new.numbers; table = table.new }
+            ≡ fresh_start self.old.numbers table.old }
     {
-        let w = self.numbers;
-        let sizes = checks::check_start(w, table);
-        if !sizes.is_done() {
-            return Outcome {
-                answer: sizes,
-                crossbar: self,
-            };
-        }
-        table::clear(table);
-        let fresh = Crossbar {
-            numbers: w.restarted(),
-        };
-        Outcome {
-            answer: sizes,
-            crossbar: fresh,
-        }
+        checks::check_start(self.numbers, table)?;
+        table.fill(0);
+        self.numbers = self.numbers.restarted();
+        Ok(())
     }
 
     // Runs one slot: inhale, transfer phases, exhale. Refused with a number from 1 to 8, and then nothing changes.
     #[tactic(auto, using(crate::proofs::Outcomes::slot_stays, crate::proofs::Outcomes::clock_goes, crate::proofs::Outcomes::slot_goes))]
     pub fn slot(
-        self,
+        &mut self,
         table: &mut [u32],
         arrivals: &[u32],
         matches: &mut [u32],
         exhaled: &mut [u32],
-    ) -> Outcome
+    ) -> Result<(), Refusal>
         ensures { record {
-          answer = result.answer;
-          numbers = result.crossbar.numbers;
+          answer = result;
+          numbers = self.new.numbers;
           table = table.new;
           matches = matches.new;
           exhaled = exhaled.new;
         }
-            ≡ slot self.numbers table.old (lists arrivals.now matches.old exhaled.old) }
+            ≡ slot self.old.numbers table.old (lists arrivals.now matches.old exhaled.old) }
     {
-        let w = self.numbers;
-        let answer = checks::check_slot(w, table, arrivals, matches, exhaled);
-        if !answer.is_done() {
-            return Outcome {
-                answer: answer,
-                crossbar: self,
-            };
-        }
-        run(w, table, arrivals, matches, exhaled);
-        let next = Crossbar {
-            numbers: w.raised(),
-        };
-        Outcome {
-            answer: answer,
-            crossbar: next,
-        }
+        checks::check_slot(self.numbers, table, arrivals, matches, exhaled)?;
+        run(self.numbers, table, arrivals, matches, exhaled);
+        self.numbers = self.numbers.raised();
+        Ok(())
     }
 }
 
