@@ -3,10 +3,11 @@
 -- Assumes nothing.
 use Rattle.std.specs.Prelude.{◌≡◌, refl, Bool, true, false, cond, ℕ, zero, suc, ◌+◌, ◌-◌, ◌*◌, ◌/◌, ◌%◌, ◌≤◌, ◌<◌, ltb, get_or, set, take}
 use Rattle.std.proofs.Math.Path.{sym}
-use Rattle.std.proofs.Common.{ap, ◌∙◌, ⊎_elim, arith, add-one, add-zero, mod-lt, div-add-mod', le-div_iff_mul-le, div-lt_iff_lt-mul, length-append, get_or-set_same, get_or-set_other, get_or-take, take-suc-set, ltb-true, ltb-false}
+use Rattle.std.proofs.Common.{ap, ◌∙◌, ⊎_elim, arith, add-one, add-zero, mod-lt, div-add-mod', le-div_iff_mul-le, div-lt_iff_lt-mul, eq-or-lt_of_le, length-append, get_or-set_same, get_or-set_other, get_or-take, take-suc-set, ltb-true, ltb-false}
 use mathlib.Core.List.{List, [], ◌∷◌, ◌++◌}
 use Rattle.std.proofs.Math.ListN.{length, get_or-append}
 use Rattle.std.proofs.lemmas.List.{get_or_at, take-set-le}
+use Rattle.std.proofs.Math.Bool.{So}
 use Rattle.laws.specs.Tests.{No, passes}
 use Rattle.laws.specs.Count.{bit}
 use Rattle.laws.specs.Walk.{over, over_zero, over_more, below_suc, walk_on}
@@ -194,3 +195,28 @@ module _ (p : ℕ → Bool) where
   chosen_sifted {n} {m} {ws} c =
       sifted_like (rw (sym c.many) at (rises n)) ws
       (λ j i. sym (get_or-take m ws j 0 i) ∙ ap (λ (l : List ℕ). get_or l j 0) c.front)
+
+  -- each of them passes the test
+  abbrev Passing : ℕ → Type 0
+  Passing n = (j : ℕ) → j < length (chosen p n) → So (p (get_or (chosen p n) j 0))
+
+  all_pass : (n : ℕ) → Passing n
+  all_pass zero = let c = chosen_none [] in λ j l. absurd (omega (arith, c.many))
+  all_pass (suc n) = rw (sym (add-one n)) (⊎_elim (λ h. yes h (all_pass n)) (λ h. no h (all_pass n)) (passes (p n)))
+    where
+      yes : p n ≡ true → Passing n → Passing (n + 1)
+      yes h d = rw (chosen_yes n h) (λ j l. ⊎_elim (λ e. last j e) (λ i. below j i) (eq-or-lt_of_le {n = j} {m = length (chosen p n)} (omega (arith, length-append (chosen p n) (n ∷ [])))))
+        where
+          last : (j : ℕ) → j ≡ length (chosen p n) → So (p (get_or (chosen p n ++ (n ∷ [])) j 0))
+          last j e = rw (e, get_or_at (chosen p n) n [] 0 (length (chosen p n)) refl) h
+
+          below : (j : ℕ) → j < length (chosen p n) → So (p (get_or (chosen p n ++ (n ∷ [])) j 0))
+          below j i = rw (get_or-append (chosen p n) (n ∷ []) 0 j i) (d j i)
+
+      no : p n ≡ false → Passing n → Passing (n + 1)
+      no h d = rw (chosen_no n h) d
+
+  pub chosen_passes : {n m : ℕ} {ws : List ℕ} → Chosen p n ws m → (j : ℕ) → j < m → So (p (get_or ws j 0))
+  chosen_passes {n} {m} {ws} c j l =
+      let e : get_or ws j 0 ≡ get_or (chosen p n) j 0 = sym (get_or-take m ws j 0 l) ∙ ap (λ (l : List ℕ). get_or l j 0) c.front in
+      rw e (all_pass n j (omega (arith, c.many)))

@@ -1,15 +1,15 @@
 -- A stretch of the table, the records of it whose places have some of the bits that are asked for (the waiting ones, the ready ones or all live
 -- ones), and what a pass over these alone may leave out: records whose places have none of the bits, and whole blocks of them.
 -- Assumes nothing.
-use Rattle.std.specs.Prelude.{ℕ, ◌+◌, ◌-◌, ◌*◌, ◌≤◌, ◌<◌, min, ◌≡◌, Bool, List, eqb, length, get_or, set, take}
-use Rattle.std.proofs.Common.{sym, ◌∙◌, arith, add-one, add-zero, length-set}
+use Rattle.std.specs.Prelude.{ℕ, ◌+◌, ◌-◌, ◌*◌, ◌≤◌, ◌<◌, min, ◌≡◌, Bool, List, eqb, get_or, take}
+use Rattle.std.proofs.Common.{sym, ◌∙◌, arith, add-one, add-zero}
 use Rattle.std.proofs.Math.Path.{ap}
 use Rattle.std.proofs.Math.Bool.{not}
 use borrow.Author.Tests.{eqb-true, eq-eqb}
 use Rattle.std.specs.Int.Bits.{bit_and}
 use Rattle.laws.specs.Tests.{No, to_so}
-use Rattle.laws.specs.Count.{bit}
-use Rattle.laws.specs.Sifted.{Sifted, Block, Chosen, past, chosen_settled, chosen_none, chosen_more, chosen_skip, chosen_sifted, sifted_as, to_sifted, to_end}
+use Rattle.laws.specs.Sifted.{Sifted, Block, Chosen, past, chosen_settled, chosen_none, chosen_skip, chosen_sifted, sifted_as, to_sifted, to_end}
+use Rattle.sift.specs.Lists.{Lists}
 use Rattle.rules.specs.declared.Cell.{Cell}
 use Rattle.rules.specs.Cells.{nth, width, records, cells_of}
 use Rattle.words.specs.Words.{nth-cells_of}
@@ -58,7 +58,6 @@ BlockLacks ws k bits = Block block (Lacks ws k bits)
 
 -- the first m numbers of the list are those of the n records from k on that have one of `bits`, in rising order
 pub record Listed (ws : List ℕ) (k n bits : ℕ) (list : List ℕ) (m : ℕ) : Type 0 where
-  pub long : length list ≡ stretch_size
   pub numbers : Chosen (has_bits ws k bits) n list m
 
 -- which settles how many they are and which; what stands behind them is left open, and whoever reads m of them cannot tell
@@ -83,30 +82,24 @@ module _ (ws : List ℕ) (k bits : ℕ) where
   pub lacks_word : (x : ℕ) → k + x < records ws → bit_and (get_or ws ((k + x) * width) 0) bits ≡ 0 → Lacks ws k bits x
   lacks_word x l e = ap (λ (c : Cell). bit_and c.place bits) (nth-cells_of ws (k + x) l) ∙ e
 
-  -- by a block that was looked at
-  pub block_lacks : (b r : ℕ) → (r ≡ 0 → (j : ℕ) → j < block → Lacks ws (k + b * block) bits j) → No (not (eqb r 0)) → BlockLacks ws k bits b
-  block_lacks b r h q j l =
-      let e : k + b * block + j ≡ k + (b * block + j) = omega arith in
-      rw e at (h (eqb-true r 0 (to_so (eqb r 0) q)) j l)
-
 -- A pass that lists: where it begins, one record more, and records that it need not look at
-pub listed_none : (ws : List ℕ) (k bits : ℕ) {list : List ℕ} → length list ≡ stretch_size → Listed ws k 0 bits list 0
-listed_none ws k bits {list} e = record { long = e; numbers = chosen_none (has_bits ws k bits) list }
+pub listed_none : (ws : List ℕ) (k bits : ℕ) (list : List ℕ) → Listed ws k 0 bits list 0
+listed_none ws k bits list = record { numbers = chosen_none (has_bits ws k bits) list }
 
 module _ {ws : List ℕ} {k n bits : ℕ} {list : List ℕ} {m : ℕ} (d : Listed ws k n bits list m) where
   pub listed_sifted : Sifted (Lacks ws k bits) list m n
   listed_sifted = sifted_as (λ x l h. lacks_has ws k bits x h) (chosen_sifted (has_bits ws k bits) d.numbers)
 
-  -- the number of record n is written behind those listed, and stays by its place
-  pub listed_more : {r : ℕ} → n < stretch_size → k + n < records ws → r ≡ bit (not (eqb (bit_and (get_or ws ((k + n) * width) 0) bits) 0))
-      → Listed ws k (n + 1) bits (set list m n) (m + r)
-  listed_more l h e = record {
-    long = length-set list m n ∙ d.long;
-    numbers = rw (e, sym (word_has ws k bits n h)) (chosen_more (has_bits ws k bits) d.numbers (omega (arith, d.long, listed_sifted.few)));
+  -- the numbers of the next records are listed by the words of their places
+  pub listed_on : {gives : ℕ → Bool → Type 0} {to r : ℕ} {new : List ℕ} → Lists gives n to list m new r → k + to ≤ records ws
+      → ((x : ℕ) → n ≤ x → x < to → (b : Bool) → gives x b → b ≡ not (eqb (bit_and (get_or ws ((k + x) * width) 0) bits) 0))
+      → Listed ws k to bits new r
+  listed_on l i h = record {
+    numbers = l.chosen (has_bits ws k bits) (λ x a b. word_has ws k bits x (omega arith) ∙ sym (h x a b (l.stays x) (l.given x a b))) d.numbers;
   }
 
   pub listed_skip : (x : ℕ) → n ≤ x → ((y : ℕ) → n ≤ y → y < x → Lacks ws k bits y) → Listed ws k x bits list m
-  listed_skip x l h = record { long = d.long; numbers = chosen_skip (has_bits ws k bits) x d.numbers l (λ y a b. has-not ws k bits y (h y a b)) }
+  listed_skip x l h = record { numbers = chosen_skip (has_bits ws k bits) x d.numbers l (λ y a b. has-not ws k bits y (h y a b)) }
 
 -- A pass over the records listed of a stretch ---------------------------------------------------------
 
@@ -119,7 +112,6 @@ pub record Pass (P : ℕ → Type 0) (ws : List ℕ) (k end bits : ℕ) (list : 
 
 -- in turn j: the record listed is one of the stretch, and P holds of those below it
 pub record Visit (P : ℕ → Type 0) (ws : List ℕ) (k end : ℕ) (list : List ℕ) (j : ℕ) : Type 0 where
-  pub index : j < length list
   pub small : get_or list j 0 < stretch_size
   pub here : k + get_or list j 0 < end
   pub inside : k + get_or list j 0 < records ws
@@ -147,7 +139,6 @@ module _ {P : ℕ → Type 0} {ws : List ℕ} {k end bits : ℕ} {list : List �
         let s = p.stretch in
         let r = d.rising j l in
         record {
-          index = omega (arith, d.few, p.listed.long);
           small = omega (arith, r.1);
           here = omega (arith, r.1);
           inside = omega (arith, r.1);

@@ -14,7 +14,7 @@ Bare ws bits x = bit_and (nth (cells_of ws) x).place bits ≡ 0
 
 -- where a walk has come to: the records below were passed
 unfoldable pub reached : Records → ℕ
-reached s = s.from + past s.list s.turn
+reached s = s.from + past s.listed.list s.turn
 
 -- a walk over the records of these words with these bits, that begins with the first one
 pub record Starts (ws : List ℕ) (bits : ℕ) (s : Records) : Type 0 where

@@ -4,11 +4,17 @@
 // Places are told by their bits; whoever asked looks at the records listed again.
 #![tactic(auto)]
 
-ghost use Rattle.std.specs.Prelude.{◌≡◌, not, ℕ, ◌+◌, ◌-◌, ◌*◌, ◌/◌, ◌<◌, ◌≤◌, min, eqb, length};
-ghost use Rattle.laws.specs.Count.{bit};
-ghost use Rattle.laws.specs.Sifted.{Sifted, Chosen};
+ghost use Rattle.std.specs.Prelude.{◌≡◌, ℕ, ◌+◌, ◌-◌, ◌*◌, ◌/◌, ◌<◌, ◌≤◌, min};
+ghost use Rattle.laws.specs.Sifted.{Sifted};
 ghost use Rattle.rules.specs.Cells.{records};
 ghost use Rattle.sift.specs.Stretch.{stretch_size, block, block_count, Lacks, BlockLacks, Stretch, Listed};
+ghost use Rattle.sift.specs.Walk.{Starts};
+
+mod numbers;
+mod walk;
+
+pub use numbers::Numbers;
+pub use walk::Records;
 
 // How many records are listed at a time, so that a number of one fits a byte; how many of them are looked at together; and how many such blocks a
 // stretch has: `stretch_size`, `block` and `block_count` of specs/.
@@ -19,28 +25,18 @@ pub const BLOCK: usize = 8;
 pub const BLOCKS: usize = STRETCH / BLOCK;
 
 // The bits of the places: of waiting cells, of ready ones and of all live ones; `waiting_bit`, `ready_bit` and `live_bits` of specs/.
-pub const WAITING: u32 = 1;
+pub const WAITING: u32 = rules::WAITING;
 
-pub const READY: u32 = 2;
+pub const READY: u32 = rules::READY;
 
-pub const LIVE: u32 = 4_294_967_295;
+pub const LIVE: u32 = u32::MAX;
 
 // Where the stretch that begins at record k of n ends: a stretch's length on, or with the last record.
 pub fn stretch_end(k: usize, n: usize) -> usize
     requires { k < n }
     ensures { result ≡ min (k + stretch_size) n }
 {
-    if n - k < STRETCH {
-        return n;
-    }
-    k + STRETCH
-}
-
-// 1 where x has a bit, without a branch for the caller.
-pub fn one_if_any(x: u32) -> usize
-    ensures { (result ≡ bit (not (eqb x 0))) × (result ≤ 1) }
-{
-    if x == 0 { 0 } else { 1 }
+    k + STRETCH.min(n - k)
 }
 
 // What the places of the block of records from k on have of `bits`, all in one.
@@ -50,31 +46,22 @@ fn any_of_block(table: &[u32], k: usize, bits: u32) -> u32
     ensures { result ≡ 0 → (j : ℕ) → j < block → Lacks table.now k bits j }
 {
     let mut any = 0;
-    let mut j = 0;
-    while j < BLOCK {
+    for j in 0..BLOCK {
         any |= table[(k + j) * rules::RECORD_WORDS] & bits;
-        j += 1;
     }
     any
 }
 
 // Lists the blocks in which some place has one of `bits`, of so many from record k on.
 #[tactic(auto, unfolding(rules::specs::Cells::records))]
-fn sift_blocks(table: &[u32], k: usize, count: usize, bits: u32, blocks: &mut [u8; BLOCKS]) -> usize
+fn sift_blocks(table: &[u32], k: usize, count: usize, bits: u32) -> Numbers<BLOCKS>
     requires block_bound { k + count * block ≤ records table.now }
     requires count_le_block_count { count ≤ block_count }
-    requires blocks_len { length blocks.old ≡ block_count }
-    ensures sifted { Sifted (BlockLacks table.now k bits) blocks.new result count }
-    ensures blocks_len_kept { length blocks.new ≡ block_count }
+    ensures { Sifted (BlockLacks table.now k bits) result.list result.count count }
 {
-    let mut found = 0;
-    let mut b = 0;
-    while b < count {
-        blocks[found] = b as u8;
-        found += one_if_any(any_of_block(table, k + b * BLOCK, bits));
-        b += 1;
-    }
-    found
+    let mut blocks = Numbers::none();
+    blocks.list_from(0, count, |b| any_of_block(table, k + b * BLOCK, bits) != 0);
+    blocks
 }
 
 // Lists the records with one of `bits` from number `from` to number `to` of the stretch, behind those below.
@@ -85,69 +72,53 @@ fn sift_between(
     from: usize,
     to: usize,
     bits: u32,
-    list: &mut [u8; STRETCH],
-    found: usize,
-) -> usize
+    numbers: &mut Numbers<STRETCH>,
+)
     requires from_le_to { (from ≤ to) × (to ≤ stretch_size) × (k + to ≤ records table.now) }
-    requires listed { Listed table.now k from bits list.old found }
-    ensures { Listed table.now k to bits list.new result }
+    requires listed { Listed table.now k from bits numbers.old.list numbers.old.count }
+    ensures { Listed table.now k to bits numbers.new.list numbers.new.count }
 {
-    let mut next = found;
-    let mut x = from;
-    while x < to {
-        list[next] = x as u8;
-        next += one_if_any(table[(k + x) * rules::RECORD_WORDS] & bits);
-        x += 1;
-    }
-    next
+    numbers.list_from(
+        from,
+        to,
+        |x| table[(k + x) * rules::RECORD_WORDS] & bits != 0,
+    );
 }
 
-// Lists the records with one of `bits` in some blocks of a stretch, and in what is left behind its last block. What stands in the list behind those
-// numbers is left open.
+// Lists the records with one of `bits` in some blocks of a stretch, and in what is left behind its last block.
 pub fn sift_within(
     table: &[u32],
     k: usize,
     size: usize,
     bits: u32,
-    blocks: &[u8],
-    count: usize,
-    list: &mut [u8; STRETCH],
-) -> usize
+    blocks: &Numbers<BLOCKS>,
+    numbers: &mut Numbers<STRETCH>,
+)
     requires size_le_stretch_size { (size ≤ stretch_size) × (k + size ≤ records table.now) }
-    requires count_in_bounds { (count ≤ length blocks.now) × (length list.old ≡ stretch_size) }
-    requires sifted { Sifted (BlockLacks table.now k bits) blocks.now count (size / block) }
-    ensures { Listed table.now k size bits list.new result }
+    requires sifted { Sifted (BlockLacks table.now k bits) blocks.now.list blocks.now.count (size / block) }
+    ensures { Listed table.now k size bits numbers.new.list numbers.new.count }
 {
-    let mut found = 0;
-    let mut j = 0;
-    while j < count {
-        let from = (blocks[j] as usize) * BLOCK;
-        found = sift_between(table, k, from, from + BLOCK, bits, list, found);
-        j += 1;
+    numbers.clear();
+    for b in blocks.as_slice() {
+        let from = usize::from(*b) * BLOCK;
+        sift_between(table, k, from, from + BLOCK, bits, numbers);
     }
-    let rest = size / BLOCK * BLOCK;
-    sift_between(table, k, rest, size, bits, list, found)
+    sift_between(table, k, size / BLOCK * BLOCK, size, bits, numbers);
 }
 
-// Lists the records with one of `bits` in the stretch from record k to record `end`, numbered from k on; gives how many they are. What stands in the
-// list behind those numbers is left open.
-pub fn sift_records(
-    table: &[u32],
-    k: usize,
-    end: usize,
-    bits: u32,
-    list: &mut [u8; STRETCH],
-) -> usize
-    requires stretch { Stretch table.now k end }
-    requires list_len { length list.old ≡ stretch_size }
-    ensures { Listed table.now k (end - k) bits list.new result }
+// Lists the records with one of `bits` in the stretch from record k to record `end`, numbered from k on.
+pub fn sift_records(table: &[u32], k: usize, end: usize, bits: u32, numbers: &mut Numbers<STRETCH>)
+    requires { Stretch table.now k end }
+    ensures { Listed table.now k (end - k) bits numbers.new.list numbers.new.count }
 {
     let size = end - k;
-    let mut blocks = [0u8; BLOCKS];
-    let count = sift_blocks(table, k, size / BLOCK, bits, &mut blocks);
-    sift_within(table, k, size, bits, &blocks, count, list)
+    let blocks = sift_blocks(table, k, size / BLOCK, bits);
+    sift_within(table, k, size, bits, &blocks, numbers);
 }
 
-mod walk;
-
-pub use walk::{Records, records_with};
+// The records with one of `bits`.
+pub fn records_with(table: &[u32], bits: u32) -> Records<'_>
+    ensures { Starts table.now bits result }
+{
+    Records::with_bits(table, bits)
+}

@@ -1,14 +1,12 @@
--- No more are listed than were looked at; the number of the next record is written behind them.
-use Rattle.std.proofs.Common.{arith}
-use Rattle.sift.specs.Stretch.{listed_sifted, listed_more}
+-- No more are listed than were looked at; a record stays by its place.
+use Rattle.std.proofs.Common.{rules}
+use Rattle.rules.specs.Cells.{records}
+use Rattle.sift.specs.Stretch.{listed_sifted, listed_on}
 use Rattle.sift.proofs.sift_between.Goals as goal
 
-pub bounds-list-next : goal.bounds-list-next
-bounds-list-next c = omega (arith, (listed_sifted c.loop-x.invariant.listed).few)
+pub list_from-requires : goal.list_from-requires
+unfolding records
+list_from-requires c = let few = (listed_sifted c.requires.listed).few in search rules
 
-pub loop-x-preserved : goal.loop-x-preserved
-loop-x-preserved c =
-    record {
-      turn = omega arith;
-      listed = listed_more c.loop-x.invariant.listed (omega arith) (omega arith) c.one_if_any-next.ensures.0;
-    }
+pub returns : goal.returns
+returns c = listed_on c.requires.listed c.list_from.ensures c.requires.from_le_to.2 (λ x a b r g. search rules)

@@ -1,26 +1,31 @@
 -- Each block of the list is one of the stretch, behind those below; what lies between two of them, and behind the last, lacks the bits.
-use Rattle.std.proofs.Common.{◌≡◌, ◌+◌, ◌*◌, get_or, arith, add-one}
+use Rattle.std.proofs.Common.{◌≡◌, ◌+◌, ◌*◌, ◌<◌, arith, add-one}
 use Rattle.laws.specs.Sifted.{past, blocks_between, blocks-behind}
+use Rattle.sift.specs.Lists.{read_front}
 use Rattle.sift.specs.Stretch.{block, listed_none, listed_skip}
 use Rattle.sift.proofs.sift_within.Goals as goal
 
-pub loop-j-init : goal.loop-j-init
-loop-j-init c = record { turn = omega arith; listed = listed_none _ _ _ c.requires.count_in_bounds.1 }
-
-pub sift_between-found-requires-clause-listed : goal.sift_between-found-requires-clause-listed
-sift_between-found-requires-clause-listed c =
-    let r = c.requires.sifted.rising c.loop-j.j c.loop-j-test.true in
-    listed_skip c.loop-j.invariant.listed _ (omega (arith, r.0)) (blocks_between block (omega arith) _ c.requires.sifted c.loop-j.j c.loop-j-test.true)
-
-pub loop-j-preserved : goal.loop-j-preserved
-loop-j-preserved c =
-    let j = c.loop-j.j in
-    let bs = c.args.blocks.now in
-    let e : past bs (j + 1) * block ≡ get_or bs j 0 * block + block = rw (add-one j) (omega arith) in
-    record { turn = omega arith; listed = rw e c.sift_between-found.ensures }
+pub loop-b-init : goal.loop-b-init
+loop-b-init c = rw c.clear.ensures (listed_none _ _ _ _)
 
 pub sift_between-requires-clause-listed : goal.sift_between-requires-clause-listed
 sift_between-requires-clause-listed c =
-    let i = c.loop-j in
-    let e : i.j ≡ c.args.count = omega arith in
-    listed_skip (rw e at i.invariant.listed) _ (omega (arith, c.requires.sifted.reach)) (blocks-behind block (omega arith) _ c.requires.sifted)
+    let j = c.loop-b.b-index in
+    let bs = c.args.blocks.now in
+    let l : j < bs.count = omega arith in
+    let e = read_front bs.list c.as_slice-b-items.ensures.0 l c.from-from.ensures in
+    let r = c.requires.sifted.rising j l in
+    listed_skip c.loop-b.invariant _ (omega (arith, r.0, e)) (rw e (blocks_between block (omega arith) _ c.requires.sifted j l))
+
+pub loop-b-preserved : goal.loop-b-preserved
+loop-b-preserved c =
+    let j = c.loop-b.b-index in
+    let bs = c.args.blocks.now in
+    let e = read_front bs.list c.as_slice-b-items.ensures.0 (omega arith) c.from-from.ensures in
+    let q : past bs.list (j + 1) * block ≡ c.from-from.result * block + block = rw (add-one j) (omega (arith, e)) in
+    rw q c.sift_between.ensures
+
+pub sift_between-requires-2-clause-listed : goal.sift_between-requires-2-clause-listed
+sift_between-requires-2-clause-listed c =
+    let e : c.loop-b.b-index ≡ c.args.blocks.now.count = omega arith in
+    listed_skip (rw e at c.loop-b.invariant) _ (omega (arith, c.requires.sifted.reach)) (blocks-behind block (omega arith) _ c.requires.sifted)
