@@ -2,12 +2,11 @@
 -- Assumes nothing.
 use Rattle.std.specs.Prelude.{ℕ, ◌+◌, ◌%◌, ◌≤◌, ◌<◌, ◌≡◌, Bool, ◌&&◌, List, length, replicate, Option}
 use Rattle.std.proofs.Math.Path.{refl, sym}
-use Rattle.std.proofs.Common.{ap, ◌∙◌}
+use Rattle.std.proofs.Common.{ap, subst, ◌∙◌}
 use Rattle.std.proofs.Math.Logic.{⊎_elim}
 use Rattle.std.proofs.Math.Bool.{true, false, cond, and-true}
 use native.Mathlib.Omega.{arith}
 use Rattle.std.proofs.Math.Numerals.{add-one}
-use Rattle.std.specs.Int.Bits.{bit_and}
 use Rattle.std.proofs.Math.Dec.{eqb, ltb}
 use Rattle.std.proofs.Math.ListN.{get_or, set, get_or-replicate, get_or-eq_default}
 use Rattle.std.proofs.Math.Seq.{ext_get_or}
@@ -22,7 +21,9 @@ use Rattle.rules.specs.declared.Cell.{Cell}
 use Rattle.rules.specs.declared.Output.{Output}
 use Rattle.rules.specs.Cells.{most_ports, output_of, nth, records, cells_of, is_ready, same_output, is_ready_for}
 use Rattle.rules.specs.Phases.{ready_count, readings}
+use Rattle.sift.specs.declared.walk.Records.{Records}
 use Rattle.sift.specs.Stretch.{ready_bit}
+use Rattle.sift.specs.Walk.{Bare, Starts, Next, Last, Turn, reached, to_next, to_last}
 use Rattle.table.specs.Table.{older_at}
 
 -- a cell that is ready for some output
@@ -127,15 +128,43 @@ module _ (cs : List Cell) where
       (λ l. rw (get_or-eq_default (readings_below cs k) 0 {n = o} (rw (length-tabulate (ready_below cs k) most_ports) (ltb-false o most_ports l))) (omega arith))
       (passes (ltb o most_ports))
 
+-- a walk over the ready records of these words has come to where P holds of the records below
+pub record Passed (P : ℕ → Type 0) (ws : List ℕ) (s : Records) : Type 0 where
+  pub words : s.table.now ≡ ws
+  pub bits_are : s.bits ≡ ready_bit
+  pub below : P (reached s)
+
+pub passed_none : {P : ℕ → Type 0} {ws : List ℕ} {s t : Records} → Starts ws ready_bit s → t ≡ s → P 0 → Passed P ws t
+passed_none {P} {ws} {s} h e p = rw e (record { words = h.words; bits_are = h.bits_are; below = rw h.first p })
+
+module _ {P : ℕ → Type 0} {ws : List ℕ} {s : Records} (p : Passed P ws s) where
+  next_one : {k : ℕ} {t : Records} → Turn s k t → Next ws ready_bit (reached s) k
+  next_one {k} h = subst (λ b. Next ws b (reached s) k) p.bits_are (subst (λ us. Next us s.bits (reached s) k) p.words h.next)
+
+  none_more : Last s.table.now s.bits (reached s) → Last ws ready_bit (reached s)
+  none_more h = subst (λ b. Last ws b (reached s)) p.bits_are (subst (λ us. Last us s.bits (reached s)) p.words h)
+
+  pub passed_inside : {k : ℕ} {t : Records} → Turn s k t → k < records ws
+  passed_inside h = (next_one h).inside
+
+  -- the next turn, after the state has become one of which Q holds
+  pub passed_more : {Q : ℕ → Type 0} {k : ℕ} {t : Records} → Turn s k t → Q (k + 1) → Passed Q ws t
+  passed_more h q = record { words = h.words ∙ p.words; bits_are = h.bits_are ∙ p.bits_are; below = rw h.on q }
+
+  -- where P is kept by each record that is not ready, it holds up to the next one that is ready, and to the end behind the last one
+  module _ (keeps : (x : ℕ) → x < records ws → Bare ws ready_bit x → P x → P (x + 1)) where
+    pub passed_next : {k : ℕ} {t : Records} → Turn s k t → P k
+    passed_next h = to_next P keeps (next_one h) p.below
+
+    pub passed_all : Last s.table.now s.bits (reached s) → P (records ws)
+    passed_all h = to_last P keeps (none_more h) p.below
+
 -- a pass over the ready records of the table: the counts of those below record k
 pub record Counted (ws ns : List ℕ) (k : ℕ) : Type 0 where
   pub are : ns ≡ readings_below (cells_of ws) k
 
-pub counted_keeps : {ws ns : List ℕ} (x : ℕ) → x < records ws → bit_and (nth (cells_of ws) x).place ready_bit ≡ 0 → Counted ws ns x → Counted ws ns (x + 1)
+pub counted_keeps : {ws ns : List ℕ} (x : ℕ) → x < records ws → Bare ws ready_bit x → Counted ws ns x → Counted ws ns (x + 1)
 counted_keeps {ws} x l h c = record { are = c.are ∙ readings_skip (cells_of ws) x (and_none _ ready_bit (omega arith) h) }
-
-pub counted_long : {ws ns : List ℕ} {k : ℕ} → Counted ws ns k → length ns ≡ most_ports
-counted_long {ws} {ns} {k} c = ap length c.are ∙ length-readings (cells_of ws) k
 
 -- no count exceeds the records passed
 pub counted_le : {ws ns : List ℕ} {k : ℕ} → Counted ws ns k → (o : ℕ) → get_or ns o 0 ≤ k
@@ -157,6 +186,6 @@ oldest_skip cs o k h = sym (least_more _ _ k ∙ sooner_skip _ k (oldest_below c
 pub record OldestFound (ws : List ℕ) (o : Output) (found : Option ℕ) (k : ℕ) : Type 0 where
   pub is : found ≡ oldest_below (cells_of ws) o k
 
-pub oldest_keeps : {ws : List ℕ} {o : Output} {found : Option ℕ} (x : ℕ) → x < records ws → bit_and (nth (cells_of ws) x).place ready_bit ≡ 0
+pub oldest_keeps : {ws : List ℕ} {o : Output} {found : Option ℕ} (x : ℕ) → x < records ws → Bare ws ready_bit x
     → OldestFound ws o found x → OldestFound ws o found (x + 1)
 oldest_keeps {ws} {o} x l h c = record { is = c.is ∙ oldest_skip (cells_of ws) o x (and_none _ ready_bit (omega arith) h) }

@@ -1,18 +1,21 @@
--- What a store leaves in the lent words, and where no record is free.
+-- What a store leaves in the lent words, where no record is free, and how many are live.
 -- Assumes nothing.
-use Rattle.std.specs.Prelude.{ℕ, ◌+◌, ◌<◌, ◌≤◌, ◌≡◌, Bool, List, set, Some, None}
-use Rattle.std.proofs.Common.{◌∙◌, arith, add-one, length-set, eq-eqb, ne_eqb}
+use Rattle.std.specs.Prelude.{ℕ, ◌+◌, ◌*◌, ◌<◌, ◌≤◌, ◌≡◌, Bool, not, List, ◌++◌, set, take, drop, Some, None}
+use Rattle.std.proofs.Common.{sym, ◌∙◌, append_assoc, arith, add-one, length-set, drop-drop, eq-eqb}
 use Rattle.std.proofs.Math.Bool.{So}
+use Rattle.std.proofs.lemmas.List.Edits.{sets-eq}
 use Rattle.std.proofs.Math.ListN.{length}
 use Rattle.laws.specs.Tests.{No}
 use Rattle.laws.specs.Walk.{below_suc}
+use Rattle.laws.specs.Count.{bit, count, count_zero, count_suc, count_le}
 use Rattle.laws.specs.Least.{lowest_hit}
 use Rattle.laws.proofs.Least.{lowest_nothing}
 use Rattle.rules.specs.declared.Cell.{Cell}
-use Rattle.rules.specs.Cells.{nth, is_free, is_live, records, cells_of, older}
+use Rattle.rules.specs.Cells.{nth, width, fields, is_free, is_live, records, cells_of, older}
+use Rattle.rules.specs.Answers.{live}
 use Rattle.rules.specs.Phases.{lowest_free}
-use Rattle.words.specs.Words.{length-cells_of, same-records, with_records, length_with}
-use Rattle.words.proofs.Words.{cells_of_with}
+use Rattle.words.specs.Words.{store, length-cells_of, same-records, with_records, length_with, in_words}
+use Rattle.words.proofs.Words.{cells_of_with, store_with}
 
 -- the words with c as record k
 abbrev pub stored : List ℕ → ℕ → Cell → List ℕ
@@ -32,11 +35,18 @@ module _ (ws : List ℕ) (k : ℕ) (c : Cell) where
   pub cells_of-stored : cells_of (stored ws k c) ≡ set (cells_of ws) k c
   cells_of-stored = cells_of_with ws (set (cells_of ws) k c) many
 
--- whether a record read is live, by its place
-pub is_live_lem : {c d : Cell} → c ≡ d → (c.place ≡ 0 → ⊥) → So (is_live d)
-unfolding is_live is_free
-is_live_lem e h = rw (← e, ne_eqb _ _ h)
+-- a record's fields in their places are a store
+store-parts : (ws : List ℕ) (k : ℕ) (c : Cell) → k * width + width ≤ length ws
+    → store ws k c ≡ take (k * width) ws ++ (fields c ++ drop (k * width + width) ws)
+store-parts ws k c l = sets-eq (fields c) ws (k * width) l ∙ append_assoc (take (k * width) ws) (fields c) (drop (k * width + width) ws)
 
+pub spliced : (ws xs : List ℕ) (k n : ℕ) (c : Cell) → k < records ws → xs ≡ fields c → n ≡ width
+    → take (k * width) ws ++ (xs ++ drop n (drop (k * width) ws)) ≡ stored ws k c
+spliced ws xs k n c h e q =
+    let inside : k * width + width ≤ length ws = omega (arith, in_words ws {n = k + 1} (omega arith)) in
+    rw (e, q, drop-drop) (sym (store-parts ws k c inside) ∙ store_with ws k h c)
+
+-- whether a record read is live, by its place
 pub not_live : {c d : Cell} → c ≡ d → c.place ≡ 0 → No (is_live d)
 unfolding is_live is_free
 not_live e h = rw (← e, eq-eqb _ _ h)
@@ -51,20 +61,35 @@ none_below_zero ws = record { inside = omega arith; none = λ k l. absurd (omega
 
 -- a scan from there on: the turn that passes a record, the turn that finds, and the end
 module _ {ws : List ℕ} {k : ℕ} (b : NoneBelow ws k) where
-  pub none_below_more : {c : Cell} → k < records ws → c ≡ nth (cells_of ws) k → (c.place ≡ 0 → ⊥) → NoneBelow ws (k + 1)
-  unfolding is_free
-  none_below_more {c} l e h = record {
-    inside = omega arith;
-    none = rw (add-one k) (below_suc (λ j. No (is_free (nth (cells_of ws) j))) k b.none (rw (← e) (ne_eqb _ _ h)));
-  }
+  pub none_below_more : k < records ws → No (is_free (nth (cells_of ws) k)) → NoneBelow ws (k + 1)
+  none_below_more l h = record { inside = omega arith; none = rw (add-one k) (below_suc (λ j. No (is_free (nth (cells_of ws) j))) k b.none h) }
 
-  pub first-free : {c : Cell} → k < records ws → c ≡ nth (cells_of ws) k → c.place ≡ 0 → lowest_free (cells_of ws) ≡ Some k
-  unfolding is_free lowest_free
-  first-free {c} l e h = lowest_hit _ k (length (cells_of ws)) (rw (length-cells_of ws) l) (lowest_nothing _ k b.none) (rw (← e) (eq-eqb _ _ h))
+  pub first_free : k < records ws → So (is_free (nth (cells_of ws) k)) → lowest_free (cells_of ws) ≡ Some k
+  unfolding lowest_free
+  first_free l h = lowest_hit _ k (length (cells_of ws)) (rw (length-cells_of ws) l) (lowest_nothing _ k b.none) h
 
   pub none_free : records ws ≤ k → lowest_free (cells_of ws) ≡ None
   unfolding lowest_free
   none_free l = let e : length (cells_of ws) ≡ k = omega (arith, length-cells_of ws, b.inside) in rw e (lowest_nothing _ k b.none)
+
+-- the live records below k, counted one by one
+abbrev pub live_below : List ℕ → ℕ → ℕ
+live_below ws k = count (λ j. is_live (nth (cells_of ws) j)) k
+
+module _ (ws : List ℕ) where
+  pub live_none : live_below ws 0 ≡ 0
+  live_none = count_zero _
+
+  pub live_more : (k : ℕ) (b : Bool) → b ≡ is_free (nth (cells_of ws) k) → live_below ws (k + 1) ≡ live_below ws k + bit (not b)
+  unfolding is_live
+  live_more k b e = rw (add-one k, e) (omega (arith, count_suc (λ j. is_live (nth (cells_of ws) j)) k))
+
+  pub live_fits : (k : ℕ) → live_below ws k ≤ k
+  live_fits k = count_le _ k
+
+  pub live_all : (k : ℕ) → k ≡ records ws → live_below ws k ≡ live (cells_of ws)
+  unfolding live
+  live_all k e = rw (e, length-cells_of)
 
 -- Findings ------------------------------------------------------------------------------------------
 
