@@ -228,6 +228,11 @@ module _ {table : List ℕ} {qs : PairQueues} {input : Input} {output : Output} 
             (passes (ltb j k)))
             (passes (eqb j k))
 
+  -- the record that the word names has a place in the table, and in the queues
+  pub looked_inside : (v k : ℕ) (found : Option ℕ) → v ≡ suc k → Looked stale.queues.cl table input.0 output.0 v found
+      → (k < records table) × (k < most_records)
+  looked_inside v k found e s = (omega (arith, s.within), omega (arith, s.within, stale.few))
+
   -- the same, in the words of the code
   pub looked_on : (v k : ℕ) (found : Option ℕ) → v ≡ suc k → Looked stale.queues.cl table input.0 output.0 v found
       → let next : Option ℕ = first_found (older_at (cells_of table)) found (waiting_at (cells_of table) k) in

@@ -68,6 +68,15 @@ pub named_name : (x : Option ℕ) → named (name_of x) ≡ x
 named_name (Some k) = refl
 named_name None = refl
 
+-- the word that a record has, and the one that no record has
+pub word_some : (w k : ℕ) → named w ≡ Some k → w ≡ suc k
+word_some zero k e = cc
+word_some (suc j) k e = cc
+
+pub word_none : (w : ℕ) → named w ≡ None → w ≡ 0
+word_none zero e = refl
+word_none (suc j) e = cc
+
 pub named_word : (w : ℕ) → (w ≡ 0 → ⊥) → Some (w - 1) ≡ named w
 named_word zero h = absurd (h refl)
 named_word (suc k) h = ap Some (omega arith)

@@ -26,6 +26,7 @@ use Rattle.rules.specs.Cells.{most_ports, most_records, nth, is_waiting, records
 use Rattle.ideal.specs.Cells.{waiting→}
 use Rattle.words.specs.Words.{length-cells_of}
 use Rattle.sift.specs.Stretch.{waiting_bit}
+use Rattle.sift.specs.Walk.{Next, Last, to_next, to_last}
 use Rattle.table.specs.Table.{older_at}
 use Rattle.queues.specs.declared.PairQueues.{PairQueues}
 use Rattle.queues.specs.Layout.{pairs, Long, pair, pair_of, same-pair}
@@ -37,22 +38,18 @@ use Rattle.queues.specs.Heads.{head_below_lem, HeadSet, head_set_lem}
 
 -- A record read ----------------------------------------------------------------------------------
 
-module _ (cs : List Cell) (k : ℕ) {c : Cell} (e : c ≡ nth cs k) where
-  pub is_waiting_lem : c.place ≡ 1 → So (is_waiting (nth cs k))
+module _ (cs : List Cell) (k : ℕ) where
+  not-waiting : ((nth cs k).place ≡ 1 → ⊥) → No (is_waiting (nth cs k))
   unfolding is_waiting
-  is_waiting_lem h = rw (← e, eq-eqb _ _ h)
+  not-waiting h = ne_eqb _ _ h
 
-  pub not-waiting : (c.place ≡ 1 → ⊥) → No (is_waiting (nth cs k))
-  unfolding is_waiting
-  not-waiting h = rw (← e, ne_eqb _ _ h)
-
-  pub waiting_here : c.place ≡ 1 → waiting_at cs k ≡ Some k
+  pub waiting_here : So (is_waiting (nth cs k)) → waiting_at cs k ≡ Some k
   unfolding waiting_at
-  waiting_here h = cond_true (is_waiting (nth cs k)) (Some k) None (is_waiting_lem h)
+  waiting_here h = cond_true (is_waiting (nth cs k)) (Some k) None h
 
-  pub waiting_none : (c.place ≡ 1 → ⊥) → waiting_at cs k ≡ None
+  pub waiting_none : No (is_waiting (nth cs k)) → waiting_at cs k ≡ None
   unfolding waiting_at
-  waiting_none h = cond_false (is_waiting (nth cs k)) (Some k) None (not-waiting h)
+  waiting_none h = cond_false (is_waiting (nth cs k)) (Some k) None h
 
 -- One more record --------------------------------------------------------------------------------
 
@@ -205,9 +202,9 @@ module _ {table : List ℕ} {k : ℕ} {qs : PairQueues} (j : Joinable table k qs
       pub old_below : Below (records table) x
       old_below = rw (is_old, was_head) (below_wider k (records table) (head_below cs k i o) (omega (arith, j.inside)) (head_below_lem cs k i o))
 
-      module _ {y : Option ℕ} (older : y ≡ first_found (older_at (cells_of table)) x (waiting_at (cells_of table) k)) where
+      module _ {y : Option ℕ} (older : y ≡ first_found (older_at (cells_of table)) x (Some k)) where
         is_new : y ≡ new_head cs k ms
-        is_new = older ∙ ap (λ (v : Option ℕ). first_found (older_at cs) v (waiting_at cs k)) is_old
+        is_new = older ∙ ap₂ (first_found (older_at cs)) is_old (sym (waiting_here cs k w))
 
         pub new_below : Below most_records y
         new_below = rw (is_new, is_head) (below_wider (k + 1) most_records (head_below cs (k + 1) i o) (omega (arith, names)) (head_below_lem cs (k + 1) i o))
@@ -263,8 +260,25 @@ module _ {table : List ℕ} (f : Lineable table) where
 -- From one waiting cell to the next --------------------------------------------------------------
 
 -- a record that lacks the bit of waiting cells changes nothing
-pub lined_keeps : (table : List ℕ) {qs : PairQueues} (x : ℕ) → x < records table → bit_and (nth (cells_of table) x).place waiting_bit ≡ 0
+lined_keeps : (table : List ℕ) {qs : PairQueues} (x : ℕ) → x < records table → bit_and (nth (cells_of table) x).place waiting_bit ≡ 0
     → qs ≡ lined_to (cells_of table) x → qs ≡ lined_to (cells_of table) (x + 1)
 lined_keeps table x l h y =
     let cs = cells_of table in
-    y ∙ sym (lined_more cs x ∙ joined_skip cs x _ (not-waiting cs x refl (and_none _ waiting_bit (omega arith) h)))
+    y ∙ sym (lined_more cs x ∙ joined_skip cs x _ (not-waiting cs x (and_none _ waiting_bit (omega arith) h)))
+
+-- so the queues of the records that a walk over the waiting cells has passed are those below the one that it gives next, which can join them,
+-- and at its end those of all
+module _ {table ws : List ℕ} {bits at : ℕ} {qs : PairQueues} (words : ws ≡ table) (bits_are : bits ≡ waiting_bit)
+    (y : qs ≡ lined_to (cells_of table) at) where
+  pub lined_next : {k : ℕ} → Next ws bits at k → qs ≡ lined_to (cells_of table) k
+  lined_next n = to_next (λ (x : ℕ). qs ≡ lined_to (cells_of table) x) (lined_keeps table) (rw (words, bits_are) at n) y
+
+  pub next_joins : {k : ℕ} → Lineable table → Next ws bits at k → Joinable table k qs
+  next_joins {k} f n =
+      let l : k < records table = rw words at n.inside in
+      record { inside = l; lineable = f; below = rw (lined_next n) (lined_to_lem f k (omega (arith, l))) }
+
+  pub lined_last : Last ws bits at → qs ≡ lined_up (cells_of table)
+  lined_last n =
+      to_last (λ (x : ℕ). qs ≡ lined_to (cells_of table) x) (lined_keeps table) (rw (words, bits_are) at n) y
+      ∙ ap (lined_to (cells_of table)) (sym (length-cells_of table))
