@@ -1,6 +1,6 @@
 -- The heads: what a new one leaves of the others, and how they change where a cell is picked and its pair's head is found anew.
 -- Assumes nothing.
-use Prim.Native.Nat.{ℕ, ◌+◌, ◌<◌, ◌≤◌}
+use Prim.Native.Nat.{ℕ, ◌<◌, ◌≤◌}
 use Rattle.std.specs.Prelude.{◌≡◌, Bool, not, ◌&&◌, eqb, length, Option, Some, None}
 use Rattle.std.proofs.Math.Path.{refl, sym, ap}
 use Rattle.std.proofs.Common.{◌∙◌, subst, arith, eqb-true}
@@ -8,9 +8,8 @@ use Rattle.std.proofs.Math.Logic.{⊎_elim}
 use Rattle.std.proofs.Math.Bool.{So, and-true}
 use Rattle.std.proofs.lemmas.Bool.{false≢true, eqb-false}
 use mathlib.Core.List.{List}
-use Rattle.std.proofs.Math.ListN.{get_or, set, length-set}
+use Rattle.std.proofs.Math.ListN.{set, length-set}
 use Rattle.std.proofs.Math.Seq.{get_or-set_same, get_or-set_other}
-use Rattle.std.proofs.lemmas.List.{set-get_or}
 use Rattle.laws.specs.Tests.{No, passes, fails_right, same_test}
 use Rattle.laws.specs.Least.{least_below, Below, below_wider}
 use Rattle.laws.proofs.Least.{least-same}
@@ -26,7 +25,7 @@ use Rattle.ideal.specs.Phases.{placed_waits, placed-cell}
 use Rattle.ideal.specs.InPorts.{in_ports_still}
 use Rattle.words.specs.Words.{length-cells_of}
 use Rattle.queues.specs.declared.PairQueues.{PairQueues}
-use Rattle.queues.specs.Layout.{pairs, Long, pair, same-pair}
+use Rattle.queues.specs.Layout.{Long, pair, same-pair}
 use Rattle.queues.specs.Layout.{head_word, senders, wanted, name_of, is_found}
 use Rattle.queues.specs.Queues.{waits_for, waits→, head_below, head_of, All, But, Queues, head_set, Stale}
 use Rattle.queues.specs.Chains.{chains_kept}

@@ -1,10 +1,9 @@
 -- The queues' parts, and what a word of them names. `PAIRS` and the others of the code are the same numbers.
 -- Assumes nothing.
-use Rattle.std.specs.Prelude.{ℕ, zero, suc, ◌+◌, ◌-◌, ◌*◌, ◌<◌, ◌≡◌, refl, Bool, true, false, List, length, get_or, replicate, Option, Some, None}
+use Rattle.std.specs.Prelude.{ℕ, zero, suc, ◌+◌, ◌-◌, ◌*◌, ◌<◌, ◌≡◌, refl, Bool, true, false, length, get_or, replicate, Option, Some, None}
 use Rattle.std.proofs.Common.{ap, arith}
 use Rattle.rules.specs.declared.Cell.{Cell}
 use Rattle.rules.specs.Cells.{most_ports, most_records}
-use Rattle.ports.specs.declared.PortSet.{PortSet}
 use Rattle.ports.specs.Ports.{set_of}
 use Rattle.queues.specs.declared.PairQueues.{PairQueues}
 

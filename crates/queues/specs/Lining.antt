@@ -2,14 +2,14 @@
 -- nothing, and that the words of all records say of the table what queues say.
 -- Assumes nothing.
 use Prim.Native.Nat.{ℕ, zero, suc, ◌+◌, ◌<◌, ◌≤◌}
-use Rattle.std.specs.Prelude.{◌≡◌, Bool, eqb, length, get_or, Option, Some, None}
+use Rattle.std.specs.Prelude.{◌≡◌, Bool, eqb, length, Option, Some, None}
 use Rattle.std.proofs.Math.Path.{refl, sym, ap, ap₂}
 use Rattle.std.proofs.Common.{◌∙◌, ⊎_elim, subst, arith}
 use Rattle.std.proofs.Math.Bool.{So}
 use Rattle.std.proofs.lemmas.Bool.{false≢true}
 use mathlib.Core.List.{List}
 use Rattle.std.proofs.Math.Numerals.{add-one}
-use borrow.Author.Tests.{eqb-true, eqb-false, eq-eqb, ne_eqb}
+use borrow.Author.Tests.{eqb-true, eqb-false, ne_eqb}
 use Rattle.std.specs.Int.Bits.{bit_and}
 use Rattle.std.proofs.Math.ListN.{length-replicate}
 use Rattle.std.proofs.lemmas.List.{get_or-replicate}
@@ -215,6 +215,9 @@ module _ {table : List ℕ} {k : ℕ} {qs : PairQueues} (j : Joinable table k qs
             e ∙ ap (λ (d : Cell). head_set us d.input.0 d.output.0 y) read ∙ ap₂ (λ (v : PairQueues) (h : Option ℕ). head_set v i o h) are_chained is_new
             ∙ sym (joined_waits cs k qs w)
 
+-- what a record joins by
+pub ruleset joining = (joined_skip, joins_ports, joins_pair, old_below, new_below)
+
 -- All records ------------------------------------------------------------------------------------
 
 module _ {table : List ℕ} (f : Lineable table) where
@@ -282,3 +285,6 @@ module _ {table ws : List ℕ} {bits at : ℕ} {qs : PairQueues} (words : ws ≡
   lined_last n =
       to_last (λ (x : ℕ). qs ≡ lined_to (cells_of table) x) (lined_keeps table) (rw (words, bits_are) at n) y
       ∙ ap (lined_to (cells_of table)) (sym (length-cells_of table))
+
+-- what a table is lined up by
+pub ruleset lining = (lined_zero, lined_more, lined_next, lined_last)

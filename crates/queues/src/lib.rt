@@ -69,6 +69,7 @@ impl PairQueues {
     }
 
     // The queues of a table.
+    #[tactic(auto, using(crate::specs::Lining::lining))]
     pub fn line_up(table: &[u32]) -> PairQueues
         requires { Lineable table.now }
         ensures { result ≡ lined_up (cells_of table.now) }
@@ -156,7 +157,7 @@ impl PairQueues {
     }
 
     // Record k joins the queues of the records below it, where it waits.
-    #[tactic(auto, using(crate::specs::Lining::joins_ports, crate::specs::Lining::joins_pair, crate::specs::Lining::joined_skip))]
+    #[tactic(auto, using(crate::specs::Lining::joining))]
     fn join(&mut self, table: &[u32], k: usize)
         requires { Joinable table.now k self.old }
         ensures { self.new ≡ joined (cells_of table.now) k self.old }
@@ -172,7 +173,7 @@ impl PairQueues {
 }
 
 // Of what was found and record k, where that waits, the older.
-#[tactic(auto, using(crate::specs::Lining::waiting_here, crate::specs::Lining::waiting_none), unfolding(crate::specs::Queues::waiting_at))]
+#[tactic(auto, unfolding(crate::specs::Queues::waiting_at))]
 fn older_of(table: &[u32], found: Option<usize>, k: usize) -> Option<usize>
     requires k_bound { k < records table.now }
     requires below { Below (records table.now) found }

@@ -1,5 +1,5 @@
 -- The chain begins with the pair's top, goes down from a record to the next lower one, and ends where all of the pair have been looked at.
-use Rattle.std.proofs.Common.{◌≡◌, ap, ◌∙◌, arith, sym, suc}
+use Rattle.std.proofs.Common.{ap, arith}
 use Rattle.queues.specs.Layout.{top_word, word_some, word_none}
 use Rattle.queues.specs.Chains.{looked_below, looked_top, looked_inside, looked_on, looked_all}
 use Rattle.queues.proofs.PairQueues.look.Goals as goal
