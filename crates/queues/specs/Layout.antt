@@ -1,10 +1,9 @@
 -- The queues' parts, and what a word of them names. `PAIRS` and the others of the code are the same numbers.
 -- Assumes nothing.
-use Rattle.std.specs.Prelude.{ℕ, zero, suc, ◌+◌, ◌-◌, ◌*◌, ◌<◌, ◌≡◌, refl, Bool, true, false, List, length, get_or, replicate, Option, Some, None}
+use Rattle.std.specs.Prelude.{ℕ, zero, suc, ◌+◌, ◌-◌, ◌*◌, ◌<◌, ◌≡◌, refl, Bool, true, false, length, get_or, replicate, Option, Some, None}
 use Rattle.std.proofs.Common.{ap, arith}
 use Rattle.rules.specs.declared.Cell.{Cell}
 use Rattle.rules.specs.Cells.{most_ports, most_records}
-use Rattle.ports.specs.declared.PortSet.{PortSet}
 use Rattle.ports.specs.Ports.{set_of}
 use Rattle.queues.specs.declared.PairQueues.{PairQueues}
 
@@ -67,6 +66,15 @@ named (suc k) = Some k
 pub named_name : (x : Option ℕ) → named (name_of x) ≡ x
 named_name (Some k) = refl
 named_name None = refl
+
+-- the word that a record has, and the one that no record has
+pub word_some : (w k : ℕ) → named w ≡ Some k → w ≡ suc k
+word_some zero k e = cc
+word_some (suc j) k e = cc
+
+pub word_none : (w : ℕ) → named w ≡ None → w ≡ 0
+word_none zero e = refl
+word_none (suc j) e = cc
 
 pub named_word : (w : ℕ) → (w ≡ 0 → ⊥) → Some (w - 1) ≡ named w
 named_word zero h = absurd (h refl)

@@ -1,6 +1,6 @@
 -- The waiting cells by pair of input and output: what the words of the list say of a table, how they come to say it, and what the calls ask for.
 -- Assumes nothing.
-use Rattle.std.specs.Prelude.{ℕ, suc, ◌+◌, ◌<◌, ◌≤◌, ◌≡◌, Bool, cond, ◌&&◌, List, eqb, length, set, Option, Some, None}
+use Rattle.std.specs.Prelude.{ℕ, suc, ◌<◌, ◌≤◌, ◌≡◌, Bool, cond, ◌&&◌, List, eqb, length, set, Option, Some, None}
 use Rattle.std.proofs.Math.Bool.{So}
 use Rattle.std.proofs.Common.{eqb-true, eq-eqb}
 use Rattle.laws.specs.Tests.{both, join}

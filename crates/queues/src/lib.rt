@@ -7,7 +7,7 @@ ghost use Rattle.laws.specs.Least.{Below};
 ghost use Rattle.laws.specs.First.{first_found};
 ghost use Rattle.rules.specs.Cells.{most_ports, most_records, records, cells_of};
 ghost use Rattle.table.specs.Table.{older_at};
-ghost use Rattle.queues.specs.Layout.{pair, pairs, named, head_word, senders, wanted, no_queues};
+ghost use Rattle.queues.specs.Layout.{pair, pairs, name_of, named, head_word, senders, wanted, no_queues};
 ghost use Rattle.queues.specs.Queues.{Ports, head_of, waiting_at, linked, head_set, joined, lined_up, Lineable, Joinable, Stale};
 
 use ports::PortSet;
@@ -25,6 +25,25 @@ pub struct PairQueues {
     links: [u16; MOST_RECORDS],
     senders: [PortSet; PORT_COUNT],
     wanted: PortSet,
+}
+
+// The word that names a record.
+fn name_of(found: Option<usize>) -> u16
+    requires { Below most_records found }
+    ensures { result ≡ name_of found }
+{
+    match found {
+        Some(k) => (k + 1) as u16,
+        None => 0,
+    }
+}
+
+// The record that a word names.
+fn named(word: u16) -> Option<usize>
+    ensures { result ≡ named word }
+{
+    let k = word.checked_sub(1)?;
+    Some(k as usize)
 }
 
 // Where the words of a pair stand.
@@ -50,6 +69,7 @@ impl PairQueues {
     }
 
     // The queues of a table.
+    #[tactic(auto, using(crate::specs::Lining::lining))]
     pub fn line_up(table: &[u32]) -> PairQueues
         requires { Lineable table.now }
         ensures { result ≡ lined_up (cells_of table.now) }
@@ -66,11 +86,7 @@ impl PairQueues {
         requires { Ports i o }
         ensures { result ≡ named (head_word self.now i.0 o.0) }
     {
-        let word = self.heads[pair_of(i, o)];
-        if word == 0 {
-            return None;
-        }
-        Some((word - 1) as usize)
+        named(self.heads[pair_of(i, o)])
     }
 
     // The inputs that have a cell for an output.
@@ -95,15 +111,13 @@ impl PairQueues {
         requires below { Below most_records found }
         ensures { self.new ≡ head_set self.old i.0 o.0 found }
     {
-        let head = pair_of(i, o);
+        self.heads[pair_of(i, o)] = name_of(found);
         let at = o.0 as usize;
         let inputs = self.senders[at];
-        let Some(k) = found else {
-            self.heads[head] = 0;
+        if found.is_none() {
             self.senders[at] = inputs.except(PortSet::of(i.0));
             return;
-        };
-        self.heads[head] = (k + 1) as u16;
+        }
         self.senders[at] = inputs.with(i.0);
         self.wanted = self.wanted.with(o.0);
     }
@@ -115,9 +129,8 @@ impl PairQueues {
         requires k_lt_most_records { k < most_records }
         ensures { self.new ≡ linked self.old p k }
     {
-        let top = self.tops[p];
-        self.links[k] = top;
-        self.tops[p] = (k + 1) as u16;
+        self.links[k] = self.tops[p];
+        self.tops[p] = name_of(Some(k));
     }
 
     // The oldest waiting cell of a pair, looked for along its chain.
@@ -127,8 +140,7 @@ impl PairQueues {
     {
         let mut found = None;
         let mut word = self.tops[pair_of(i, o)];
-        while word != 0 {
-            let k = (word - 1) as usize;
+        while let Some(k) = named(word) {
             found = older_of(table, found, k);
             word = self.links[k];
         }
@@ -145,6 +157,7 @@ impl PairQueues {
     }
 
     // Record k joins the queues of the records below it, where it waits.
+    #[tactic(auto, using(crate::specs::Lining::joining))]
     fn join(&mut self, table: &[u32], k: usize)
         requires { Joinable table.now k self.old }
         ensures { self.new ≡ joined (cells_of table.now) k self.old }
@@ -154,12 +167,13 @@ impl PairQueues {
             return;
         }
         self.link(pair_of(c.input, c.output), k);
-        let found = older_of(table, self.head(c.input, c.output), k);
+        let found = table::older_finding(table, self.head(c.input, c.output), Some(k));
         self.set_head(c.input, c.output, found);
     }
 }
 
 // Of what was found and record k, where that waits, the older.
+#[tactic(auto, unfolding(crate::specs::Queues::waiting_at))]
 fn older_of(table: &[u32], found: Option<usize>, k: usize) -> Option<usize>
     requires k_bound { k < records table.now }
     requires below { Below (records table.now) found }
