@@ -8,6 +8,7 @@ use borrow.Author.Tests.{eqb-true, eqb-false, ltb-true, ltb-false, le-ltb}
 use Rattle.std.proofs.Math.Dec.{eqb}
 use Rattle.std.proofs.Math.ListN.{length-set}
 use Rattle.std.proofs.Math.Seq.{get_or-set_same, get_or-set_other}
+use Rattle.std.proofs.lemmas.List.{get_or-replicate}
 use Rattle.laws.specs.Tests.{No, passes, refuted, both, join, deny, denied, cond_true, cond_false, eqb_self}
 use Rattle.laws.specs.Walk.{below_suc}
 use Rattle.laws.specs.Order.{ranks_on}
@@ -21,7 +22,8 @@ use Rattle.rules.specs.Cells.{most_ports, most_records, nth, is_waiting, older, 
 use Rattle.ideal.specs.Cells.{waiting→, older_ranks}
 use Rattle.words.specs.Words.{length-cells_of}
 use Rattle.table.specs.Table.{older_at}
-use Rattle.queues.specs.Layout.{pairs, tops, links, queue_words, pair, pair_of, top_word, next_word, no_queues, zero_word}
+use Rattle.queues.specs.declared.PairQueues.{PairQueues}
+use Rattle.queues.specs.Layout.{pairs, Long, pair, pair_of, top_word, next_word, no_queues}
 use Rattle.queues.specs.Queues.{waits_for, waits→, →waits, head_below, head_of, Link, Chains, But, Queues, waiting_at, class_of, linked, Stale}
 
 -- a record of another pair is no member
@@ -46,13 +48,13 @@ link_here {cl} {p} {k} e = record {
 pub no_chains : (cl : ℕ → ℕ) → Chains cl 0 no_queues
 no_chains cl = record {
   tops = λ p l.
-      let z : top_word no_queues p ≡ 0 = zero_word (tops + p) (omega arith) in
+      let z : top_word no_queues p ≡ 0 = get_or-replicate pairs p 0 0 l in
       record { within = rw z (omega arith); member = λ k e. absurd (omega (arith, z)); highest = λ j a b. absurd (omega arith) };
   nexts = λ k l. absurd (omega arith);
 }
 
 -- record k is of no pair
-pub chains_skip : {cl : ℕ → ℕ} {k : ℕ} {qs : List ℕ} → Chains cl k qs → cl k ≡ pairs → Chains cl (k + 1) qs
+pub chains_skip : {cl : ℕ → ℕ} {k : ℕ} {qs : PairQueues} → Chains cl k qs → cl k ≡ pairs → Chains cl (k + 1) qs
 chains_skip {cl} {k} {qs} h e = record {
   tops = λ p l. link_on (h.tops p l) (λ q. omega (arith, q, e));
   nexts =
@@ -61,25 +63,31 @@ chains_skip {cl} {k} {qs} h e = record {
 }
 
 -- record k is of pair p
-module _ (qs : List ℕ) (long : length qs ≡ queue_words) (p : ℕ) (small : p < pairs) (k : ℕ) (fits : k < most_records) where
-  pub linked_long : length (linked qs p k) ≡ queue_words
+module _ (qs : PairQueues) (long : Long qs) (p : ℕ) (small : p < pairs) (k : ℕ) (fits : k < most_records) where
+  pub linked_long : Long (linked qs p k)
   unfolding linked
-  linked_long = length-set (set qs (links + k) (top_word qs p)) (tops + p) (suc k) ∙ length-set qs (links + k) (top_word qs p) ∙ long
-
-  -- another word
-  pub linked_other : (j : ℕ) → (j ≡ links + k → ⊥) → (j ≡ tops + p → ⊥) → get_or (linked qs p k) j 0 ≡ get_or qs j 0
-  unfolding linked
-  linked_other j a b = get_or-set_other (set qs (links + k) (top_word qs p)) (tops + p) j (suc k) 0 b ∙ get_or-set_other qs (links + k) j (top_word qs p) 0 a
+  linked_long = record {
+    heads = long.heads;
+    tops = length-set qs.tops p (suc k) ∙ long.tops;
+    links = length-set qs.links k (top_word qs p) ∙ long.links;
+    senders = long.senders;
+  }
 
   top_new : top_word (linked qs p k) p ≡ suc k
   unfolding linked
-  top_new = get_or-set_same (set qs (links + k) (top_word qs p)) (tops + p) (suc k) 0 (rw (length-set qs (links + k) (top_word qs p)) (omega arith))
+  top_new = get_or-set_same qs.tops p (suc k) 0 (omega (arith, long.tops))
+
+  top_other : (q : ℕ) → (q ≡ p → ⊥) → top_word (linked qs p k) q ≡ top_word qs q
+  unfolding linked
+  top_other q n = get_or-set_other qs.tops p q (suc k) 0 n
 
   next_new : next_word (linked qs p k) k ≡ top_word qs p
   unfolding linked
-  next_new =
-      get_or-set_other (set qs (links + k) (top_word qs p)) (tops + p) (links + k) (suc k) 0 (omega arith)
-      ∙ get_or-set_same qs (links + k) (top_word qs p) 0 (omega arith)
+  next_new = get_or-set_same qs.links k (top_word qs p) 0 (omega (arith, long.links))
+
+  next_other : (j : ℕ) → (j ≡ k → ⊥) → next_word (linked qs p k) j ≡ next_word qs j
+  unfolding linked
+  next_other j n = get_or-set_other qs.links k j (top_word qs p) 0 n
 
   pub chains_link : {cl : ℕ → ℕ} → Chains cl k qs → cl k ≡ p → Chains cl (k + 1) (linked qs p k)
   chains_link {cl} h e = record {
@@ -87,7 +95,7 @@ module _ (qs : List ℕ) (long : length qs ≡ queue_words) (p : ℕ) (small : p
     nexts =
         rw (add-one k)
         (below_suc (λ (j : ℕ). cl j < pairs → Link cl (cl j) j (next_word (linked qs p k) j)) k
-        (λ j l m. subst (Link cl (cl j) j) (sym (linked_other (links + j) (omega arith) (omega arith))) (h.nexts j l m))
+        (λ j l m. subst (Link cl (cl j) j) (sym (next_other j (omega arith))) (h.nexts j l m))
         (λ m. subst (Link cl (cl k) k) (sym next_new) (rw e (h.tops p small))));
   }
     where
@@ -95,17 +103,13 @@ module _ (qs : List ℕ) (long : length qs ≡ queue_words) (p : ℕ) (small : p
       here q b = rw b (subst (Link cl p (k + 1)) (sym top_new) (link_here e))
 
       there : (q : ℕ) → q < pairs → (q ≡ p → ⊥) → Link cl q (k + 1) (top_word (linked qs p k) q)
-      there q l n =
-          subst (Link cl q (k + 1)) (sym (linked_other (tops + q) (omega arith) (λ x. n (omega arith))))
-          (link_on (h.tops q l) (λ y. n (sym y ∙ e)))
+      there q l n = subst (Link cl q (k + 1)) (sym (top_other q n)) (link_on (h.tops q l) (λ y. n (sym y ∙ e)))
 
--- other words of the list do not matter
-pub chains_kept : {cl : ℕ → ℕ} {n : ℕ} {qs ns : List ℕ} → n ≤ most_records
-    → ((p : ℕ) → p < pairs → top_word ns p ≡ top_word qs p) → ((k : ℕ) → k < most_records → next_word ns k ≡ next_word qs k)
-    → Chains cl n qs → Chains cl n ns
-chains_kept {cl} {n} few top next h = record {
-  tops = λ p l. subst (Link cl p n) (sym (top p l)) (h.tops p l);
-  nexts = λ k l m. subst (Link cl (cl k) k) (sym (next k (omega arith))) (h.nexts k l m);
+-- the heads, the sets of senders and the wanted outputs do not matter
+pub chains_kept : {cl : ℕ → ℕ} {n : ℕ} {qs ns : PairQueues} → ns.tops ≡ qs.tops → ns.links ≡ qs.links → Chains cl n qs → Chains cl n ns
+chains_kept {cl} {n} {qs} {ns} top next h = record {
+  tops = λ p l. subst (Link cl p n) (sym (ap (λ (ws : List ℕ). get_or ws p 0) top)) (h.tops p l);
+  nexts = λ k l m. subst (Link cl (cl k) k) (sym (ap (λ (ws : List ℕ). get_or ws k 0) next)) (h.nexts k l m);
 }
 
 -- Classes ----------------------------------------------------------------------------------------
@@ -130,7 +134,7 @@ pub looked_below : {cl : ℕ → ℕ} {table : List ℕ} {i o v : ℕ} {found : 
 looked_below {cl} {table} {i} {o} {v} {found} s =
     rw (length-cells_of table) at (first_below (λ j. not (ltb j v) && waits_for i o (nth (cells_of table) j)) (older_at (cells_of table)) _ found s.first)
 
-module _ {table qs : List ℕ} {input : Input} {output : Output} (stale : Stale table qs input output) where
+module _ {table : List ℕ} {qs : PairQueues} {input : Input} {output : Output} (stale : Stale table qs input output) where
   abbrev cs : List Cell
   cs = cells_of table
 

@@ -14,7 +14,8 @@ use Rattle.std.proofs.lemmas.List.{set-get_or}
 use Rattle.laws.specs.Tests.{No, passes, fails_right, same_test}
 use Rattle.laws.specs.Least.{least_below, Below, below_wider}
 use Rattle.laws.proofs.Least.{least-same}
-use Rattle.ports.specs.Ports.{has, with_port, except_ports}
+use Rattle.ports.specs.declared.PortSet.{PortSet}
+use Rattle.ports.specs.Ports.{has, with_port, except_ports, set_of}
 use Rattle.ports.specs.PortLaws.{has-none, added, added_kept, excepted}
 use Rattle.rules.specs.declared.Input.{Input}
 use Rattle.rules.specs.declared.Output.{Output}
@@ -24,8 +25,9 @@ use Rattle.ideal.specs.Cells.{waiting→, Same, older-same}
 use Rattle.ideal.specs.Phases.{placed_waits, placed-cell}
 use Rattle.ideal.specs.InPorts.{in_ports_still}
 use Rattle.words.specs.Words.{length-cells_of}
-use Rattle.queues.specs.Layout.{pairs, tops, links, sender_sets, wanted_set, queue_words, pair, same-pair}
-use Rattle.queues.specs.Layout.{head_word, top_word, next_word, senders, wanted, name_of, is_found}
+use Rattle.queues.specs.declared.PairQueues.{PairQueues}
+use Rattle.queues.specs.Layout.{pairs, Long, pair, same-pair}
+use Rattle.queues.specs.Layout.{head_word, senders, wanted, name_of, is_found}
 use Rattle.queues.specs.Queues.{waits_for, waits→, head_below, head_of, All, But, Queues, head_set, Stale}
 use Rattle.queues.specs.Chains.{chains_kept}
 
@@ -37,77 +39,56 @@ head_below_lem cs k i o = least_below _ _ k
 -- A new head ----------------------------------------------------------------------------------
 
 -- qs become ns by a head of a pair, x
-pub record HeadSet (qs : List ℕ) (i o : ℕ) (x : Option ℕ) (ns : List ℕ) : Type 0 where
-  pub long : length ns ≡ length qs
+pub record HeadSet (qs : PairQueues) (i o : ℕ) (x : Option ℕ) (ns : PairQueues) : Type 0 where
+  pub long : Long ns
   pub head : head_word ns i o ≡ name_of x
   pub sends : has (senders ns o) i ≡ is_found x
   pub heads : (a b : ℕ) → a < most_ports → b < most_ports → But i o a b → head_word ns a b ≡ head_word qs a b
   pub others : (a b : ℕ) → a < most_ports → b < most_ports → But i o a b → has (senders ns b) a ≡ has (senders qs b) a
   pub wants : So (is_found x) → So (has (wanted ns) o)
   pub kept : (b : ℕ) → So (has (wanted qs) b) → So (has (wanted ns) b)
-  pub top : (p : ℕ) → p < pairs → top_word ns p ≡ top_word qs p
-  pub next : (k : ℕ) → k < most_records → next_word ns k ≡ next_word qs k
+  pub top : ns.tops ≡ qs.tops
+  pub next : ns.links ≡ qs.links
 
-module _ (qs : List ℕ) (i o : ℕ) (long : length qs ≡ queue_words) (small : i < most_ports) (less : o < most_ports) where
+module _ (qs : PairQueues) (i o : ℕ) (long : Long qs) (small : i < most_ports) (less : o < most_ports) where
   -- with m for the output's senders and w for the wanted outputs
   module _ (x : Option ℕ) (m w : ℕ) (here : has m i ≡ is_found x) (there : (a : ℕ) → (a ≡ i → ⊥) → has m a ≡ has (senders qs o) a)
       (want : So (is_found x) → So (has w o)) (keep : (b : ℕ) → So (has (wanted qs) b) → So (has w b)) where
-    one : List ℕ
-    one = set qs (pair i o) (name_of x)
+    abbrev all : PairQueues
+    all = record {
+      heads = set qs.heads (pair i o) (name_of x);
+      tops = qs.tops;
+      links = qs.links;
+      senders = set qs.senders o (set_of m);
+      wanted = set_of w;
+    }
 
-    two : List ℕ
-    two = set one (sender_sets + o) m
+    at_set : senders all o ≡ m
+    at_set = ap (λ (s : PortSet). s.mask) (get_or-set_same qs.senders o (set_of m) (set_of 0) (omega (arith, long.senders)))
 
-    all : List ℕ
-    all = set two wanted_set w
+    at_another : (b : ℕ) → (b ≡ o → ⊥) → senders all b ≡ senders qs b
+    at_another b n = ap (λ (s : PortSet). s.mask) (get_or-set_other qs.senders o b (set_of m) (set_of 0) n)
 
-    long_one : length one ≡ queue_words
-    unfolding one
-    long_one = length-set qs (pair i o) (name_of x) ∙ long
-
-    long_two : length two ≡ queue_words
-    unfolding two
-    long_two = length-set one (sender_sets + o) m ∙ long_one
-
-    -- another word
-    else : (j : ℕ) → (j ≡ pair i o → ⊥) → (j ≡ sender_sets + o → ⊥) → (j ≡ wanted_set → ⊥) → get_or all j 0 ≡ get_or qs j 0
-    unfolding one two all
-    else j a b c =
-        get_or-set_other two wanted_set j w 0 c ∙ get_or-set_other one (sender_sets + o) j m 0 b ∙ get_or-set_other qs (pair i o) j (name_of x) 0 a
-
-    at_head : get_or all (pair i o) 0 ≡ name_of x
-    unfolding one two all
-    at_head =
-        get_or-set_other two wanted_set (pair i o) w 0 (omega arith) ∙ get_or-set_other one (sender_sets + o) (pair i o) m 0 (omega arith)
-        ∙ get_or-set_same qs (pair i o) (name_of x) 0 (omega arith)
-
-    at_set : get_or all (sender_sets + o) 0 ≡ m
-    unfolding two all
-    at_set = get_or-set_other two wanted_set (sender_sets + o) w 0 (omega arith) ∙ get_or-set_same one (sender_sets + o) m 0 (omega (arith, long_one))
-
-    at_last : get_or all wanted_set 0 ≡ w
-    unfolding all
-    at_last = get_or-set_same two wanted_set w 0 (omega (arith, long_two))
-
-    set_by : HeadSet qs i o x (set (set (set qs (pair i o) (name_of x)) (sender_sets + o) m) wanted_set w)
-    unfolding one two all
+    set_by : HeadSet qs i o x all
     set_by = record {
-      long = length-set two wanted_set w ∙ long_two ∙ sym long;
-      head = at_head;
+      long = record {
+        heads = length-set qs.heads (pair i o) (name_of x) ∙ long.heads;
+        tops = long.tops;
+        links = long.links;
+        senders = length-set qs.senders o (set_of m) ∙ long.senders;
+      };
+      head = get_or-set_same qs.heads (pair i o) (name_of x) 0 (omega (arith, long.heads));
       sends = ap (λ (v : ℕ). has v i) at_set ∙ here;
-      heads = λ a b l k ne. else (pair a b) ne (omega arith) (omega arith);
-      others = λ a b l k ne. ⊎_elim (λ e. same a b ne (eqb-true b o e)) (λ e. another a b k (eqb-false b o e)) (passes (eqb b o));
-      wants = λ f. ap (λ (v : ℕ). has v o) at_last ∙ want f;
-      kept = λ b h. ap (λ (v : ℕ). has v b) at_last ∙ keep b h;
-      top = λ p l. else (tops + p) (omega arith) (omega arith) (omega arith);
-      next = λ k l. else (links + k) (omega arith) (omega arith) (omega arith);
+      heads = λ a b l k ne. get_or-set_other qs.heads (pair i o) (pair a b) (name_of x) 0 ne;
+      others = λ a b l k ne. ⊎_elim (λ e. same a b ne (eqb-true b o e)) (λ e. ap (λ (v : ℕ). has v a) (at_another b (eqb-false b o e))) (passes (eqb b o));
+      wants = want;
+      kept = keep;
+      top = refl;
+      next = refl;
     }
       where
         same : (a b : ℕ) → But i o a b → b ≡ o → has (senders all b) a ≡ has (senders qs b) a
         same a b ne e = rw e (ap (λ (v : ℕ). has v a) at_set ∙ there a (λ v. ne (omega (arith, v, e))))
-
-        another : (a b : ℕ) → b < most_ports → (b ≡ o → ⊥) → has (senders all b) a ≡ has (senders qs b) a
-        another a b k n = ap (λ (v : ℕ). has v a) (else (sender_sets + b) (omega arith) (λ v. n (omega arith)) (omega arith))
 
   -- one input taken out of a set
   taken_out : No (has (except_ports (senders qs o) (with_port 0 i)) i)
@@ -126,16 +107,11 @@ module _ (qs : List ℕ) (i o : ℕ) (long : length qs ≡ queue_words) (small :
       let w = added {r = with_port (wanted qs) o} refl in
       set_by (Some k) (with_port (senders qs o) i) (with_port (wanted qs) o) s.inside s.others (λ f. w.inside) (added_kept w)
   head_set_lem None =
-      let m : ℕ = except_ports (senders qs o) (with_port 0 i) in
-      let ms : List ℕ = set (set qs (pair i o) 0) (sender_sets + o) m in
-      let w : get_or ms wanted_set 0 ≡ wanted qs =
-      get_or-set_other (set qs (pair i o) 0) (sender_sets + o) wanted_set m 0 (omega arith) ∙ get_or-set_other qs (pair i o) wanted_set 0 0 (omega arith) in
-      rw (set-get_or ms wanted_set 0) at
-      (set_by None m (get_or ms wanted_set 0) taken_out.0 taken_out.1 (λ f. absurd (false≢true f)) (λ b d. ap (λ (v : ℕ). has v b) w ∙ d))
+      set_by None (except_ports (senders qs o) (with_port 0 i)) (wanted qs) taken_out.0 taken_out.1 (λ f. absurd (false≢true f)) (λ b d. d)
 
 -- The head of one pair is found anew -------------------------------------------------------------
 
-module _ {table qs : List ℕ} {i : Input} {o : Output} (s : Stale table qs i o) where
+module _ {table : List ℕ} {qs : PairQueues} {i : Input} {o : Output} (s : Stale table qs i o) where
   few : length (cells_of table) ≤ most_records
   few = rw (length-cells_of table) s.few
 
@@ -151,9 +127,9 @@ module _ {table qs : List ℕ} {i : Input} {o : Output} (s : Stale table qs i o)
       let other : (x y : ℕ) → No (eqb (pair x y) (pair i.0 o.0)) → But i.0 o.0 x y = λ x y t. eqb-false (pair x y) (pair i.0 o.0) t in
       record {
         cl = q.cl;
-        long = h.long ∙ q.long;
+        long = h.long;
         ports = q.ports;
-        chains = chains_kept few h.top h.next q.chains;
+        chains = chains_kept h.top h.next q.chains;
         covers = q.covers;
         heads = record {
           head = λ x y l m z.
@@ -177,7 +153,7 @@ module _ {table qs : List ℕ} {i : Input} {o : Output} (s : Stale table qs i o)
 -- A head becomes ready ---------------------------------------------------------------------------
 
 -- its pair's head is to be found anew, the others stand
-module _ {cs : List Cell} {qs : List ℕ} (q : Queues All cs qs) (k : ℕ) (l : k < length cs) where
+module _ {cs : List Cell} {qs : PairQueues} (q : Queues All cs qs) (k : ℕ) (l : k < length cs) where
   next : List Cell
   next = set cs k (placed 2 (nth cs k))
 

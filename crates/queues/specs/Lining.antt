@@ -4,7 +4,7 @@
 use Prim.Native.Nat.{ℕ, zero, suc, ◌+◌, ◌<◌, ◌≤◌}
 use Rattle.std.specs.Prelude.{◌≡◌, Bool, eqb, length, get_or, Option, Some, None}
 use Rattle.std.proofs.Math.Path.{refl, sym, ap, ap₂}
-use Rattle.std.proofs.Common.{◌∙◌, ⊎_elim, arith}
+use Rattle.std.proofs.Common.{◌∙◌, ⊎_elim, subst, arith}
 use Rattle.std.proofs.Math.Bool.{So}
 use Rattle.std.proofs.lemmas.Bool.{false≢true}
 use mathlib.Core.List.{List}
@@ -12,12 +12,14 @@ use Rattle.std.proofs.Math.Numerals.{add-one}
 use borrow.Author.Tests.{eqb-true, eqb-false, eq-eqb, ne_eqb}
 use Rattle.std.specs.Int.Bits.{bit_and}
 use Rattle.std.proofs.Math.ListN.{length-replicate}
+use Rattle.std.proofs.lemmas.List.{get_or-replicate}
 use Rattle.laws.specs.Bits.{and_none}
 use Rattle.laws.specs.Tests.{No, passes, refuted, to_no, cond_true, cond_false}
 use Rattle.laws.specs.Walk.{over, over_more}
 use Rattle.laws.specs.Least.{least_zero, least_more, least_below, Below, below_wider, sooner, sooner_skip}
 use Rattle.laws.specs.First.{first_found, first_found-sooner}
-use Rattle.ports.specs.Ports.{has}
+use Rattle.ports.specs.declared.PortSet.{PortSet}
+use Rattle.ports.specs.Ports.{has, set_of}
 use Rattle.ports.specs.PortLaws.{has-none}
 use Rattle.rules.specs.declared.Cell.{Cell}
 use Rattle.rules.specs.Cells.{most_ports, most_records, nth, is_waiting, records, cells_of}
@@ -25,11 +27,12 @@ use Rattle.ideal.specs.Cells.{waiting→}
 use Rattle.words.specs.Words.{length-cells_of}
 use Rattle.sift.specs.Stretch.{waiting_bit}
 use Rattle.table.specs.Table.{older_at}
-use Rattle.queues.specs.Layout.{pairs, tops, links, sender_sets, wanted_set, queue_words, pair, pair_of, same-pair}
-use Rattle.queues.specs.Layout.{head_word, senders, wanted, no_queues, zero_word, name_of, named, named_name, is_found}
+use Rattle.queues.specs.declared.PairQueues.{PairQueues}
+use Rattle.queues.specs.Layout.{pairs, Long, pair, pair_of, same-pair}
+use Rattle.queues.specs.Layout.{head_word, senders, wanted, no_queues, name_of, named, named_name, is_found}
 use Rattle.queues.specs.Queues.{Ports, waits_for, waits→, →waits, head_below, Heads, All, But, Queues, waiting_at, class_of}
 use Rattle.queues.specs.Queues.{linked, head_set, chained, old_head, new_head, compared, joined, lined_to, lined_up, Lineable, LinedTo, Joinable}
-use Rattle.queues.specs.Chains.{no_chains, chains_skip, chains_kept, chains_link, class_waiting, class_other, linked_long, linked_other}
+use Rattle.queues.specs.Chains.{no_chains, chains_skip, chains_kept, chains_link, class_waiting, class_other, linked_long}
 use Rattle.queues.specs.Heads.{head_below_lem, HeadSet, head_set_lem}
 
 -- A record read ----------------------------------------------------------------------------------
@@ -53,7 +56,7 @@ module _ (cs : List Cell) (k : ℕ) {c : Cell} (e : c ≡ nth cs k) where
 
 -- One more record --------------------------------------------------------------------------------
 
-module _ (cs : List Cell) (k : ℕ) (qs : List ℕ) where
+module _ (cs : List Cell) (k : ℕ) (qs : PairQueues) where
   pub joined_skip : No (is_waiting (nth cs k)) → joined cs k qs ≡ qs
   unfolding joined
   joined_skip h = cond_false (is_waiting (nth cs k)) _ qs h
@@ -84,7 +87,7 @@ module _ (cs : List Cell) (k i o : ℕ) where
       ∙ sym (ap (first_found (older_at cs) (head_below cs k i o)) (cond_true (is_waiting (nth cs k)) (Some k) None (waits→ i o (nth cs k) h).0))
 
 -- what does not wait changes nothing
-lined_skip : {cs : List Cell} {k : ℕ} {qs : List ℕ} → No (is_waiting (nth cs k)) → LinedTo cs k qs → LinedTo cs (k + 1) qs
+lined_skip : {cs : List Cell} {k : ℕ} {qs : PairQueues} → No (is_waiting (nth cs k)) → LinedTo cs k qs → LinedTo cs (k + 1) qs
 lined_skip {cs} {k} n y = record {
   long = y.long;
   chains = chains_skip y.chains (class_other _ _ n);
@@ -99,7 +102,7 @@ lined_skip {cs} {k} n y = record {
     out i o = to_no (λ x. refuted (waits→ i o (nth cs k) x).0 n)
 
 -- a waiting cell becomes its chain's top, and the head if it is the older
-module _ {table : List ℕ} {k : ℕ} {qs : List ℕ} (j : Joinable table k qs) (w : So (is_waiting (nth (cells_of table) k))) where
+module _ {table : List ℕ} {k : ℕ} {qs : PairQueues} (j : Joinable table k qs) (w : So (is_waiting (nth (cells_of table) k))) where
   abbrev cs : List Cell
   cs = cells_of table
 
@@ -109,7 +112,7 @@ module _ {table : List ℕ} {k : ℕ} {qs : List ℕ} (j : Joinable table k qs) 
   abbrev o : ℕ
   o = (nth cs k).output.0
 
-  abbrev ms : List ℕ
+  abbrev ms : PairQueues
   ms = chained cs k qs
 
   pub names : k < most_records
@@ -124,19 +127,13 @@ module _ {table : List ℕ} {k : ℕ} {qs : List ℕ} (j : Joinable table k qs) 
   pub joins_pair : pair_of (nth (cells_of table) k) < pairs
   joins_pair = omega (arith, joins_ports.input, joins_ports.output)
 
-  joins_long : length (chained (cells_of table) k qs) ≡ queue_words
+  joins_long : Long (chained (cells_of table) k qs)
   joins_long = linked_long qs j.below.long _ joins_pair k names
-
-  -- another word than those of the chain
-  apart : (q : ℕ) → (q ≡ links + k → ⊥) → (q ≡ tops + pair_of (nth cs k) → ⊥) → get_or ms q 0 ≡ get_or qs q 0
-  apart q = linked_other qs j.below.long _ joins_pair k names q
 
   -- what was the head, and what is it now
   was_head : old_head cs k ms ≡ head_below cs k i o
-  was_head =
-      ap named
-      (apart (pair i o) (omega (arith, joins_pair)) (omega (arith, joins_pair)) ∙ j.below.heads.head i o joins_ports.input joins_ports.output tt)
-      ∙ named_name (head_below cs k i o)
+  unfolding linked
+  was_head = ap named (j.below.heads.head i o joins_ports.input joins_ports.output tt) ∙ named_name (head_below cs k i o)
 
   is_head : new_head cs k ms ≡ head_below cs (k + 1) i o
   is_head = ap (λ (x : Option ℕ). first_found (older_at cs) x (waiting_at cs k)) was_head ∙ sym (head_join cs k i o (→waits i o (nth cs k) w refl refl))
@@ -151,18 +148,16 @@ module _ {table : List ℕ} {k : ℕ} {qs : List ℕ} (j : Joinable table k qs) 
     skip = head_skip cs k x y (to_no (λ v. let t = waits→ x y (nth cs k) v in n (omega (arith, t.1, t.2))))
 
     keeps_head : head_word (compared cs k ms) x y ≡ name_of (head_below cs (k + 1) x y)
-    keeps_head = set_new.heads x y l m n ∙ apart (pair x y) (omega arith) (omega arith) ∙ j.below.heads.head x y l m tt ∙ sym (ap name_of skip)
+    unfolding linked
+    keeps_head = set_new.heads x y l m n ∙ j.below.heads.head x y l m tt ∙ sym (ap name_of skip)
 
     keeps_sends : has (senders (compared cs k ms) y) x ≡ is_found (head_below cs (k + 1) x y)
-    keeps_sends =
-        set_new.others x y l m n ∙ ap (λ (v : ℕ). has v x) (apart (sender_sets + y) (omega (arith, names)) (omega (arith, joins_pair)))
-        ∙ j.below.heads.sends x y l m tt ∙ sym (ap is_found skip)
+    unfolding linked
+    keeps_sends = set_new.others x y l m n ∙ j.below.heads.sends x y l m tt ∙ sym (ap is_found skip)
 
     keeps_wants : So (is_found (head_below cs (k + 1) x y)) → So (has (wanted (compared cs k ms)) y)
-    keeps_wants d =
-        set_new.kept y
-        (ap (λ (v : ℕ). has v y) (apart wanted_set (omega (arith, names)) (omega (arith, joins_pair)))
-        ∙ j.below.heads.wants x y l m tt (sym (ap is_found skip) ∙ d))
+    unfolding linked
+    keeps_wants d = set_new.kept y (j.below.heads.wants x y l m tt (sym (ap is_found skip) ∙ d))
 
   own : (x y : ℕ) → y < most_ports → So (eqb (pair x y) (pair i o)) → (x ≡ i) × (y ≡ o)
   own x y m t = same-pair x y i o m joins_ports.output (eqb-true (pair x y) (pair i o) t)
@@ -188,20 +183,20 @@ module _ {table : List ℕ} {k : ℕ} {qs : List ℕ} (j : Joinable table k qs) 
 
   lined_join : LinedTo cs (k + 1) (compared cs k ms)
   lined_join = record {
-    long = set_new.long ∙ joins_long;
+    long = set_new.long;
     chains =
-        chains_kept (omega (arith, names)) set_new.top set_new.next
+        chains_kept set_new.top set_new.next
         (chains_link qs j.below.long _ joins_pair k names j.below.chains (class_waiting cs k w));
     heads = heads_new;
   }
 
   -- the steps of the code: the record read as c, its pair p, the words ms once it is linked, the head x of its pair, the older y
-  module _ {c : Cell} (read : c ≡ nth (cells_of table) k) {p : ℕ} (at : p ≡ pair_of c) {us : List ℕ} (link : us ≡ linked qs p k) where
+  module _ {c : Cell} (read : c ≡ nth (cells_of table) k) {p : ℕ} (at : p ≡ pair_of c) {us : PairQueues} (link : us ≡ linked qs p k) where
     are_chained : us ≡ chained cs k qs
     are_chained = link ∙ ap (λ (v : ℕ). linked qs v k) (at ∙ ap pair_of read)
 
-    pub long_then : length us ≡ queue_words
-    long_then = ap length are_chained ∙ joins_long
+    pub long_then : Long us
+    long_then = subst Long (sym are_chained) joins_long
 
     module _ {x : Option ℕ} (head : x ≡ named (head_word us c.input.0 c.output.0)) where
       is_old : x ≡ old_head cs k ms
@@ -217,16 +212,16 @@ module _ {table : List ℕ} {k : ℕ} {qs : List ℕ} (j : Joinable table k qs) 
         pub new_below : Below most_records y
         new_below = rw (is_new, is_head) (below_wider (k + 1) most_records (head_below cs (k + 1) i o) (omega (arith, names)) (head_below_lem cs (k + 1) i o))
 
-        pub joined_by : {ns : List ℕ} → ns ≡ head_set us c.input.0 c.output.0 y → ns ≡ joined (cells_of table) k qs
+        pub joined_by : {ns : PairQueues} → ns ≡ head_set us c.input.0 c.output.0 y → ns ≡ joined (cells_of table) k qs
         unfolding compared
         joined_by e =
-            e ∙ ap (λ (d : Cell). head_set us d.input.0 d.output.0 y) read ∙ ap₂ (λ (v : List ℕ) (h : Option ℕ). head_set v i o h) are_chained is_new
+            e ∙ ap (λ (d : Cell). head_set us d.input.0 d.output.0 y) read ∙ ap₂ (λ (v : PairQueues) (h : Option ℕ). head_set v i o h) are_chained is_new
             ∙ sym (joined_waits cs k qs w)
 
 -- All records ------------------------------------------------------------------------------------
 
 module _ {table : List ℕ} (f : Lineable table) where
-  step : {k : ℕ} {qs : List ℕ} → k < records table → LinedTo (cells_of table) k qs → LinedTo (cells_of table) (k + 1) (joined (cells_of table) k qs)
+  step : {k : ℕ} {qs : PairQueues} → k < records table → LinedTo (cells_of table) k qs → LinedTo (cells_of table) (k + 1) (joined (cells_of table) k qs)
   step {k} {qs} l y =
       ⊎_elim
       (λ w. rw (joined_waits (cells_of table) k qs w) (lined_join (record { inside = l; lineable = f; below = y }) w))
@@ -236,11 +231,18 @@ module _ {table : List ℕ} (f : Lineable table) where
   pub lined_to_lem : (n : ℕ) → n ≤ records table → LinedTo (cells_of table) n (lined_to (cells_of table) n)
   unfolding head_below
   lined_to_lem zero l = rw (lined_zero (cells_of table)) (record {
-    long = length-replicate {A = ℕ} queue_words 0;
+    long = record {
+      heads = length-replicate {A = ℕ} pairs 0;
+      tops = length-replicate {A = ℕ} pairs 0;
+      links = length-replicate {A = ℕ} most_records 0;
+      senders = length-replicate {A = PortSet} most_ports (set_of 0);
+    };
     chains = no_chains _;
     heads = record {
-      head = λ i o l k z. zero_word (pair i o) (omega arith) ∙ sym (ap name_of (least_zero _ _));
-      sends = λ i o l k z. ap (λ (w : ℕ). has w i) (zero_word (sender_sets + o) (omega arith)) ∙ has-none i ∙ sym (ap is_found (least_zero _ _));
+      head = λ i o l k z. get_or-replicate pairs (pair i o) 0 0 (omega arith) ∙ sym (ap name_of (least_zero _ _));
+      sends = λ i o l k z.
+          ap (λ (s : PortSet). has s.mask i) (get_or-replicate most_ports o (set_of 0) (set_of 0) k) ∙ has-none i
+          ∙ sym (ap is_found (least_zero _ _));
       wants = λ i o l k z h. absurd (false≢true (sym (ap is_found (least_zero _ _)) ∙ h));
     };
   })
@@ -261,7 +263,7 @@ module _ {table : List ℕ} (f : Lineable table) where
 -- From one waiting cell to the next --------------------------------------------------------------
 
 -- a record that lacks the bit of waiting cells changes nothing
-pub lined_keeps : (table : List ℕ) {qs : List ℕ} (x : ℕ) → x < records table → bit_and (nth (cells_of table) x).place waiting_bit ≡ 0
+pub lined_keeps : (table : List ℕ) {qs : PairQueues} (x : ℕ) → x < records table → bit_and (nth (cells_of table) x).place waiting_bit ≡ 0
     → qs ≡ lined_to (cells_of table) x → qs ≡ lined_to (cells_of table) (x + 1)
 lined_keeps table x l h y =
     let cs = cells_of table in
