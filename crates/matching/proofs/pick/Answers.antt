@@ -4,16 +4,18 @@ use Rattle.matching.specs.Rounds.{rounds_none, rounds_all, rounds_stop, rounds_t
 use Rattle.matching.proofs.pick.Goals as goal
 
 pub rounds-init : goal.rounds-init
-rounds-init c = rounds_none _ _ _ _ _ _ c.requires.ready.queues refl refl c.requires.served_len
+rounds-init c = rounds_none _ _ _ _ _ _ c.requires.queues ? ? ?
+
+pub first_candidate-candidate-requires : goal.first_candidate-candidate-requires
+first_candidate-candidate-requires c = record { lined_up = c.rounds.invariant.queues; kept = c.rounds.invariant.kept }
 
 pub take-taken-requires : goal.take-taken-requires
-take-taken-requires c =
-    rounds_take c.rounds.invariant c.first_candidate-candidate.ensures.first c.in-Some.is c.requires.ready.orderly
+take-taken-requires c = rounds_take c.rounds.invariant c.first_candidate-candidate.ensures.first c.in-Some.is c.requires.orderly
 
 pub rounds-preserved : goal.rounds-preserved
 rounds-preserved c =
     let e = c.first_candidate-candidate.ensures in
-    rounds_more c.rounds.invariant e.first c.in-Some.is c.requires.ready.orderly c.rounds-test.true e.kept_next c.take-taken.ensures
+    rounds_more c.rounds.invariant e.first c.in-Some.is c.requires.orderly ? e.kept_next c.take-taken.ensures
 
 pub returns-after-rounds : goal.returns-after-rounds
 returns-after-rounds c = rounds_all c.rounds.invariant (omega (arith, c.rounds.invariant.rounds))
