@@ -1,5 +1,5 @@
 -- A phase writes its row of words in its place; where one moves nothing, the table stays and the words behind its row become 0.
-use Rattle.std.proofs.Common.{refl, arith}
+use Rattle.std.proofs.Common.{refl, rules, arith}
 use borrow.Rule.Slice.PartMut.{same_len_mid}
 use Rattle.matching.specs.Transfers.{phases-none, phases-ready, phases_more, phases_quiet, phases_all}
 use Rattle.matching.proofs.run_phases.Goals as goal
@@ -7,31 +7,25 @@ use Rattle.matching.proofs.run_phases.Goals as goal
 pub loop-init : goal.loop-init
 loop-init c = phases-none _ _ _ _ _ _ c.requires.ready.queues c.requires.matches_len
 
-pub overflow_add-end : goal.overflow_add-end
-overflow_add-end c = ?
-
-pub slice_bounds-transfer-end : goal.slice_bounds-transfer-end
-slice_bounds-transfer-end c = ?
-
 pub transfer-moved-requires-clause-ready : goal.transfer-moved-requires-clause-ready
 transfer-moved-requires-clause-ready c = phases-ready c.loop.invariant c.requires.ready.orderly
 
 pub returns-then-moved-eq0-clause-table_after : goal.returns-then-moved-eq0-clause-table_after
 returns-then-moved-eq0-clause-table_after c =
     let same = same_len_mid _ _ c.loop.matches _ c.transfer-moved.auto.words in
-    (phases_quiet c.loop.invariant ? c.transfer-moved.ensures _ same c.requires.ready.orderly c.if-moved-eq0.true _ _ refl
-    ?).0
+    (phases_quiet c.loop.invariant c.loop-test.true c.transfer-moved.ensures _ same c.requires.ready.orderly c.if-moved-eq0.true _ _ refl
+    (c.fill.ensures.after (λ y h. search rules))).0
 
 pub returns-then-moved-eq0-clause-matches_after : goal.returns-then-moved-eq0-clause-matches_after
 returns-then-moved-eq0-clause-matches_after c =
     let same = same_len_mid _ _ c.loop.matches _ c.transfer-moved.auto.words in
-    (phases_quiet c.loop.invariant ? c.transfer-moved.ensures _ same c.requires.ready.orderly c.if-moved-eq0.true _ _ refl
-    ?).1
+    (phases_quiet c.loop.invariant c.loop-test.true c.transfer-moved.ensures _ same c.requires.ready.orderly c.if-moved-eq0.true _ _ refl
+    (c.fill.ensures.after (λ y h. search rules))).1
 
 pub loop-preserved : goal.loop-preserved
 loop-preserved c =
     let same = same_len_mid _ _ c.loop.matches _ c.transfer-moved.auto.words in
-    phases_more c.loop.invariant ? c.transfer-moved.ensures _ same
+    phases_more c.loop.invariant c.loop-test.true c.transfer-moved.ensures _ same
 
 pub returns-clause-table_after : goal.returns-clause-table_after
 returns-clause-table_after c = (phases_all c.loop.invariant (omega (arith, c.loop.invariant.few))).0
