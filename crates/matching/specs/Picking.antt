@@ -27,6 +27,7 @@ use Rattle.ideal.specs.Cells.{waiting→, conflict→, by_input, by_output, conf
 use Rattle.ideal.specs.Match.{in_add, to_add, self_add, open→, taken_in→, →taken_in, taken→, →taken}
 use Rattle.ideal.specs.Phases.{length_moved, moved_yes, moved_no}
 use Rattle.table.specs.Table.{stored}
+use Rattle.queues.specs.declared.PairQueues.{PairQueues}
 use Rattle.queues.specs.Queues.{All, Queues}
 use Rattle.matching.specs.declared.Taken.{Taken}
 
@@ -44,24 +45,24 @@ first_candidate r ins outs cs = least (λ k. candidate ins outs (nth cs k)) (λ 
 
 -- The table us becomes vs, the taken ports q next, the inputs served ns ms: record k becomes ready, its ports are taken, its input is kept at its
 -- output. The queues are those of the new table.
-pub record Takes (us : List ℕ) (q : Taken) (ns : List ℕ) (k : ℕ) (vs qs : List ℕ) (next : Taken) (ms : List ℕ) : Type 0 where
+pub record Takes (us : List ℕ) (q : Taken) (ns : List ℕ) (k : ℕ) (vs : List ℕ) (qs : PairQueues) (next : Taken) (ms : List ℕ) : Type 0 where
   pub table : vs ≡ stored us k (placed 2 (nth (cells_of us) k))
   pub queues : Queues All (cells_of vs) qs
-  pub inputs : Added q.inputs (nth (cells_of us) k).input.0 next.inputs
-  pub outputs : Added q.outputs (nth (cells_of us) k).output.0 next.outputs
+  pub inputs : Added q.inputs.mask (nth (cells_of us) k).input.0 next.inputs.mask
+  pub outputs : Added q.outputs.mask (nth (cells_of us) k).output.0 next.outputs.mask
   pub served : ms ≡ set ns (nth (cells_of us) k).output.0 (nth (cells_of us) k).input.0
 
 -- us, q and ns show that the records of p were picked from the table ws: they are ready, their ports are taken, their inputs are kept at their
 -- outputs
 pub record Shows (ws : List ℕ) (p : ℕ → Bool) (us : List ℕ) (q : Taken) (ns : List ℕ) : Type 0 where
   pub table : us ≡ with_records ws (moved p (cells_of ws))
-  pub inputs : (i : ℕ) → has q.inputs i ≡ is_taken_input p (cells_of ws) (input_of i)
-  pub outputs : (o : ℕ) → has q.outputs o ≡ is_taken_output p (cells_of ws) (output_of o)
+  pub inputs : (i : ℕ) → has q.inputs.mask i ≡ is_taken_input p (cells_of ws) (input_of i)
+  pub outputs : (o : ℕ) → has q.outputs.mask o ≡ is_taken_output p (cells_of ws) (output_of o)
   pub long : length ns ≡ most_ports
   pub served : (k : ℕ) → k < length (cells_of ws) → So (p k) → get_or ns (nth (cells_of ws) k).output.0 0 ≡ (nth (cells_of ws) k).input.0
 
 -- the rounds of a phase show its match
-pub record Picked (n : ℕ) (r ws us qs : List ℕ) (q : Taken) (ns : List ℕ) : Type 0 where
+pub record Picked (n : ℕ) (r ws us : List ℕ) (qs : PairQueues) (q : Taken) (ns : List ℕ) : Type 0 where
   pub shows : Shows ws (match_of n r (cells_of ws)) us q ns
   pub queues : Queues All (cells_of us) qs
 
@@ -161,14 +162,14 @@ module _ {ws : List ℕ} {p : ℕ → Bool} {us : List ℕ} {q : Taken} {ns : Li
   shown_long = with_long ws (moved p cs) s.table (length_moved p cs)
 
   -- what the scan of the code finds is what the rules' round picks
-  pub finds : (r : List ℕ) → first_candidate r (has q.inputs) (has q.outputs) (cells_of us) ≡ first_open r (cells_of ws) p
+  pub finds : (r : List ℕ) → first_candidate r (has q.inputs.mask) (has q.outputs.mask) (cells_of us) ≡ first_open r (cells_of ws) p
   unfolding first_candidate first_open
   finds r =
-      ap (λ (v : List Cell). first_candidate r (has q.inputs) (has q.outputs) v) shown_cells
-      ∙ ap (least (λ k. candidate (has q.inputs) (has q.outputs) (nth (moved p cs) k)) (λ i j. before r (nth (moved p cs) i) (nth (moved p cs) j)))
+      ap (λ (v : List Cell). first_candidate r (has q.inputs.mask) (has q.outputs.mask) v) shown_cells
+      ∙ ap (least (λ k. candidate (has q.inputs.mask) (has q.outputs.mask) (nth (moved p cs) k)) (λ i j. before r (nth (moved p cs) i) (nth (moved p cs) j)))
       (length_moved p cs)
       ∙ least-same _ (is_open cs p) _ (λ i j. before r (nth cs i) (nth cs j)) (length cs)
-      (λ k l. candidate-same (has q.inputs) _ (has q.outputs) _ s.inputs s.outputs (nth (moved p cs) k) ∙ open_moved cs p k l)
+      (λ k l. candidate-same (has q.inputs.mask) _ (has q.outputs.mask) _ s.inputs s.outputs (nth (moved p cs) k) ∙ open_moved cs p k l)
       (λ i j l m. before_same r _ _ _ _ (moved_same cs p i l) (moved_same cs p j m))
 
   pub cell_same : (k : ℕ) → k < length (cells_of ws) → Same (nth (cells_of us) k) (nth (cells_of ws) k)
@@ -213,7 +214,7 @@ added_shown m a r t u h e here up down i =
     (λ x. h.others i (eqb-false i a x) ∙ e i ∙ same_test (t i) (u i) (up i) (λ y. ⊎_elim (λ z. z) (λ z. absurd (eqb-false i a x z)) (down i y)))
     (passes (eqb i a))
 
-module _ {ws : List ℕ} {p : ℕ → Bool} {us vs qs : List ℕ} {q next : Taken} {ns ms : List ℕ} (s : Shows ws p us q ns) (k : ℕ) (l : k < length (cells_of ws))
+module _ {ws : List ℕ} {p : ℕ → Bool} {us vs : List ℕ} {qs : PairQueues} {q next : Taken} {ns ms : List ℕ} (s : Shows ws p us q ns) (k : ℕ) (l : k < length (cells_of ws))
     (o : So (is_open (cells_of ws) p k)) (t : Takes us q ns k vs qs next ms) where
   abbrev zs : List Cell
   zs = cells_of ws
@@ -227,7 +228,7 @@ module _ {ws : List ℕ} {p : ℕ → Bool} {us vs qs : List ℕ} {q next : Take
       (t.table ∙ ap (λ (cs : List Cell). with_records us (set cs k (placed 2 (nth cs k)))) (shown_cells s) ∙ ap (with_records us) (moved-add zs p k l))
       (length_moved (add p k) zs ∙ sym (length_moved p zs))
 
-  added_input : (i : ℕ) → has next.inputs i ≡ is_taken_input (add p k) zs (input_of i)
+  added_input : (i : ℕ) → has next.inputs.mask i ≡ is_taken_input (add p k) zs (input_of i)
   added_input =
       added_shown _ _ _ (λ i. is_taken_input p zs (input_of i)) (λ i. is_taken_input (add p k) zs (input_of i)) (rw same.input at t.inputs) s.inputs
       (→taken_in zs (add p k) (nth zs k).input k l (self_add p k) refl)
@@ -239,7 +240,7 @@ module _ {ws : List ℕ} {p : ℕ → Bool} {us vs qs : List ℕ} {q next : Take
       (λ y. inr (sym d.3 ∙ ap (λ (j : ℕ). (nth zs j).input.0) y))
       (in_add p k d.0 d.2))
 
-  added_output : (i : ℕ) → has next.outputs i ≡ is_taken_output (add p k) zs (output_of i)
+  added_output : (i : ℕ) → has next.outputs.mask i ≡ is_taken_output (add p k) zs (output_of i)
   added_output =
       added_shown _ _ _ (λ i. is_taken_output p zs (output_of i)) (λ i. is_taken_output (add p k) zs (output_of i)) (rw same.output at t.outputs) s.outputs
       (→taken zs (add p k) (nth zs k).output k l (self_add p k) refl)
@@ -276,7 +277,7 @@ module _ {ws : List ℕ} {p : ℕ → Bool} {us vs qs : List ℕ} {q next : Take
       }
 
 -- nothing is picked yet
-pub shows-none : (ws : List ℕ) (q : Taken) (ns : List ℕ) → q.inputs ≡ 0 → q.outputs ≡ 0 → length ns ≡ most_ports → Shows ws none ws q ns
+pub shows-none : (ws : List ℕ) (q : Taken) (ns : List ℕ) → q.inputs.mask ≡ 0 → q.outputs.mask ≡ 0 → length ns ≡ most_ports → Shows ws none ws q ns
 unfolding none
 shows-none ws q ns i o l =
     let cs = cells_of ws in

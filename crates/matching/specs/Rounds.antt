@@ -3,6 +3,7 @@
 -- Assumes nothing.
 use Prim.Native.Nat.{ℕ, ◌+◌, ◌^◌, ◌≤◌, ◌<◌}
 use Rattle.std.specs.Prelude.{◌≡◌, ◌⊎◌, Bool, true, false, cond, ◌&&◌, List, ltb, set, Option, Some, None}
+use Rattle.std.specs.Option.{is_some}
 use Rattle.std.proofs.Math.Path.{refl, ap}
 use Rattle.std.proofs.Common.{sym, ◌∙◌, subst, inl, arith}
 use Rattle.std.proofs.Math.Logic.{inr, ⊎_elim}
@@ -21,7 +22,7 @@ use Rattle.laws.proofs.First.{first-least}
 use Rattle.laws.specs.SetWalk.{also, FirstIn, LowestOf, lowest_skip, lowest-fresh, lowest_tie, lowest-above, lowest-nobody, nobody}
 use Rattle.laws.proofs.SetWalk.{first_visit}
 use Rattle.ports.specs.declared.Tied.{Tied}
-use Rattle.ports.specs.Ports.{mask_ports, has, with_port, lowered, Except}
+use Rattle.ports.specs.Ports.{mask_ports, has, with_port, set_of, lowered, Except}
 use Rattle.ports.specs.PortLaws.{has-none, has-nobody, none_inside, added, added_also, added_kept, except_in, except_out}
 use Rattle.rules.specs.declared.Cell.{Cell}
 use Rattle.rules.specs.Cells.{most_ports, placed, nth, output_of, is_waiting, older, before, reading_for, cells_of}
@@ -30,6 +31,7 @@ use Rattle.words.specs.Words.{length-cells_of, same-records}
 use Rattle.ideal.specs.Match.{open_found}
 use Rattle.ideal.specs.Phases.{placed_waits}
 use Rattle.ideal.specs.Cells.{waiting→, older_ranks, before_ranks}
+use Rattle.queues.specs.declared.PairQueues.{PairQueues}
 use Rattle.queues.specs.Layout.{named, named_name, is_found, head_word, senders, wanted}
 use Rattle.queues.specs.Queues.{waits_for, waits→, →waits, head_below, head_of, All, Queues}
 use Rattle.table.specs.Table.{older_at, cells_of-stored}
@@ -113,7 +115,7 @@ module _ (cs : List Cell) (i o : ℕ) where
   head_found (Some j) h w = (j, h.0, h.1)
   head_found None h w = absurd (false≢true w)
 
-module _ {cs : List Cell} {qs : List ℕ} (q : Queues All cs qs) where
+module _ {cs : List Cell} {qs : PairQueues} (q : Queues All cs qs) where
   -- what the queues say of a pair
   pub head_read : (i o : ℕ) → i < most_ports → o < most_ports → named (head_word qs i o) ≡ head_of cs i o
   head_read i o l m = ap named (q.heads.head i o l m tt) ∙ named_name (head_of cs i o)
@@ -240,7 +242,7 @@ module _ (ins : ℕ → Bool) (cs : List Cell) where
   all_outputs s f = walk_least (λ k. waits_among ins (has s) (nth cs k)) _ cs (λ k l h. (among→ ins (has s) (nth cs k) h).2) f
 
 -- every sender that is not taken was visited
-pub all_inputs : {cs : List Cell} {qs : List ℕ} → Queues All cs qs → (ins o left : ℕ) → o < most_ports → Except (senders qs o) ins left
+pub all_inputs : {cs : List Cell} {qs : PairQueues} → Queues All cs qs → (ins o left : ℕ) → o < most_ports → Except (senders qs o) ins left
     → {x : Option ℕ} → ForOutput (has ins) o cs (has left) x → x ≡ first_for (has ins) o cs
 unfolding first_for
 all_inputs {cs} q ins o left m e f = walk_least (λ k. waits_on (has ins) o (nth cs k)) _ cs (λ k l h. left-has q ins o left m e k l h) f
@@ -252,12 +254,12 @@ first_for_below ins o cs = first_below (λ k. waits_on ins o (nth cs k)) (older_
 
 -- l are those of the outputs v that can be served with the lowest reading
 pub record Lowering (r : List ℕ) (ins : ℕ → Bool) (cs : List Cell) (v : ℕ → Bool) (l : Tied) : Type 0 where
-  pub lowest : LowestOf (λ o. is_servable ins o cs) (λ o. reading_for r (output_of o)) v (has l.mask) l.reading
-  pub some : (l.mask ≡ 0) ⊎ ((o : ℕ) × So (has l.mask o))
+  pub lowest : LowestOf (λ o. is_servable ins o cs) (λ o. reading_for r (output_of o)) v (has l.ports.mask) l.reading
+  pub some : (l.ports.mask ≡ 0) ⊎ ((o : ℕ) × So (has l.ports.mask o))
 
 module _ {r : List ℕ} {ins : ℕ → Bool} {cs : List Cell} where
-  pub lowering_none : (x : ℕ) → Lowering r ins cs nobody (record { mask = 0; reading = x })
-  lowering_none x = record { lowest = rw has-nobody (lowest-nobody x); some = inl refl }
+  pub lowering_none : {l : Tied} → l.ports.mask ≡ 0 → Lowering r ins cs nobody l
+  lowering_none {l} e = record { lowest = rw (e, has-nobody) (lowest-nobody l.reading); some = inl e }
 
   module _ {v : ℕ → Bool} {l : Tied} (h : Lowering r ins cs v l) (o : ℕ) where
     -- output o is visited and cannot be served
@@ -267,9 +269,9 @@ module _ {r : List ℕ} {ins : ℕ → Bool} {cs : List Cell} where
     -- it can
     pub lowering_visit : So (is_servable ins o cs) → (x : ℕ) → x ≡ reading_for r (output_of o) → Lowering r ins cs (also v o) (lowered l o x)
     unfolding lowered
-    lowering_visit c x e = go (eqb l.mask 0) (ltb x l.reading) (ltb l.reading x) refl refl refl
+    lowering_visit c x e = go (eqb l.ports.mask 0) (ltb x l.reading) (ltb l.reading x) refl refl refl
       where
-        fresh : ((q : ℕ) → No (has l.mask q)) ⊎ (x < l.reading) → Lowering r ins cs (also v o) (record { mask = with_port 0 o; reading = x })
+        fresh : ((q : ℕ) → No (has l.ports.mask q)) ⊎ (x < l.reading) → Lowering r ins cs (also v o) (record { ports = set_of (with_port 0 o); reading = x })
         fresh less =
             let a = added {r = with_port 0 o} refl in
             record {
@@ -277,27 +279,27 @@ module _ {r : List ℕ} {ins : ℕ → Bool} {cs : List Cell} where
               some = inr (o, a.inside);
             }
 
-        go : (a b d : Bool) → eqb l.mask 0 ≡ a → ltb x l.reading ≡ b → ltb l.reading x ≡ d
-            → Lowering r ins cs (also v o) (cond a (record { mask = with_port 0 o; reading = x })
-            (cond b (record { mask = with_port 0 o; reading = x }) (cond d l (record { mask = with_port l.mask o; reading = l.reading }))))
+        go : (a b d : Bool) → eqb l.ports.mask 0 ≡ a → ltb x l.reading ≡ b → ltb l.reading x ≡ d
+            → Lowering r ins cs (also v o) (cond a (record { ports = set_of (with_port 0 o); reading = x })
+            (cond b (record { ports = set_of (with_port 0 o); reading = x }) (cond d l (record { ports = set_of (with_port l.ports.mask o); reading = l.reading }))))
         go true b d i j k = fresh (inl (λ q. ap (λ (m : ℕ). has m q) (eqb-true _ _ i) ∙ has-none q))
         go false true d i j k = fresh (inr (ltb-true _ _ j))
         go false false true i j k =
             let g = ⊎_elim (λ z. absurd (eqb-false _ _ i z)) (λ y. y) h.some in
             record { lowest = lowest-above h.lowest o c (omega (arith, e, ltb-true l.reading x k)) g.0 g.1; some = h.some }
         go false false false i j k =
-            let a = added {r = with_port l.mask o} refl in
+            let a = added {r = with_port l.ports.mask o} refl in
             let tie : reading_for r (output_of o) ≡ l.reading = omega (arith, e, ltb-false x l.reading j, ltb-false l.reading x k) in
             record { lowest = rw (added_also a) (lowest_tie h.lowest o c tie); some = inr (o, a.inside) }
 
 -- of the outputs that are not taken and can be served, those of the set s have the lowest reading
 pub record Lows (r : List ℕ) (q : Taken) (cs : List Cell) (s : ℕ) : Type 0 where
   pub low : ℕ
-  pub all : LowestOf (λ o. is_servable (has q.inputs) o cs) (λ o. reading_for r (output_of o)) (λ o. not (has q.outputs o)) (has s) low
+  pub all : LowestOf (λ o. is_servable (has q.inputs.mask) o cs) (λ o. reading_for r (output_of o)) (λ o. not (has q.outputs.mask o)) (has s) low
 
 -- every output that is wanted and not taken was visited
-pub all_wanted : {r : List ℕ} {q : Taken} {cs : List Cell} {qs : List ℕ} {left : ℕ} {l : Tied} → Queues All cs qs → Except (wanted qs) q.outputs left
-    → Lowering r (has q.inputs) cs (has left) l → Lows r q cs l.mask
+pub all_wanted : {r : List ℕ} {q : Taken} {cs : List Cell} {qs : PairQueues} {left : ℕ} {l : Tied} → Queues All cs qs → Except (wanted qs) q.outputs.mask left
+    → Lowering r (has q.inputs.mask) cs (has left) l → Lows r q cs l.ports.mask
 all_wanted {r} {q} {cs} {qs} {left} {l} w e h = record {
   low = l.reading;
   all = record {
@@ -307,8 +309,8 @@ all_wanted {r} {q} {cs} {qs} {left} {l} w e h = record {
   };
 }
   where
-    there : (o : ℕ) → So (not (has q.outputs o)) → So (is_servable (has q.inputs) o cs) → So (has left o)
-    there o n c = e.each o ∙ join _ _ (wants w o (has q.inputs) c) n
+    there : (o : ℕ) → So (not (has q.outputs.mask o)) → So (is_servable (has q.inputs.mask) o cs) → So (has left o)
+    there o n c = e.each o ∙ join _ _ (wants w o (has q.inputs.mask) c) n
 
 -- with the same reading the older cell stands before, with a lower one any cell
 ahead : (r : List ℕ) (cell : ℕ → Cell) (k j : ℕ) → reading_for r (cell k).output ≡ reading_for r (cell j).output
@@ -326,7 +328,7 @@ before-lower r c d l = lower_below _ _ _ l
 -- the outputs of the set have one reading; every other that is not taken and can be served has a higher
 pub record Kept (r : List ℕ) (q : Taken) (cs : List Cell) (s : ℕ) : Type 0 where
   pub alike : (o p : ℕ) → So (has s o) → So (has s p) → reading_for r (output_of o) ≡ reading_for r (output_of p)
-  pub beyond : (o p : ℕ) → So (has s o) → No (has q.outputs p) → So (is_servable (has q.inputs) p cs) → No (has s p)
+  pub beyond : (o p : ℕ) → So (has s o) → No (has q.outputs.mask p) → So (is_servable (has q.inputs.mask) p cs) → No (has s p)
       → reading_for r (output_of o) < reading_for r (output_of p)
 
 kept_none : (r : List ℕ) (q : Taken) (cs : List Cell) → Kept r q cs 0
@@ -339,14 +341,14 @@ kept_lows w = record {
 }
 
 -- the taken ones go
-pub kept_left : {r : List ℕ} {q : Taken} {cs : List Cell} {s left : ℕ} → Except s q.outputs left → Kept r q cs s → Kept r q cs left
+pub kept_left : {r : List ℕ} {q : Taken} {cs : List Cell} {s left : ℕ} → Except s q.outputs.mask left → Kept r q cs s → Kept r q cs left
 kept_left {r} {q} {cs} {s} {left} e h = record {
   alike = λ o p x y. h.alike o p (except_in e o x) (except_in e p y);
   beyond = λ o p x n y m. h.beyond o p (except_in e o x) n y (to_no (λ z. refuted (e.each p ∙ join _ _ z (deny _ n)) m));
 }
 
 -- a cell is taken: the readings stay, and what can be served gets less
-module _ {us vs qs : List ℕ} {q next : Taken} {ns ms : List ℕ} {k : ℕ} (t : Takes us q ns k vs qs next ms) (l : k < length (cells_of us)) where
+module _ {us vs : List ℕ} {qs : PairQueues} {q next : Taken} {ns ms : List ℕ} {k : ℕ} (t : Takes us q ns k vs qs next ms) (l : k < length (cells_of us)) where
   cells : cells_of vs ≡ set (cells_of us) k (placed 2 (nth (cells_of us) k))
   cells = ap cells_of t.table ∙ cells_of-stored us k (placed 2 (nth (cells_of us) k))
 
@@ -354,15 +356,15 @@ module _ {us vs qs : List ℕ} {q next : Taken} {ns ms : List ℕ} {k : ℕ} (t 
   still : (j : ℕ) → So (is_waiting (nth (cells_of vs) j)) → nth (cells_of vs) j ≡ nth (cells_of us) j
   still j w = rw cells (placed_waits (cells_of us) k l j (rw cells at (waiting→ _ w)))
 
-  still_servable : (o : ℕ) → So (is_servable (has next.inputs) o (cells_of vs)) → So (is_servable (has q.inputs) o (cells_of us))
+  still_servable : (o : ℕ) → So (is_servable (has next.inputs.mask) o (cells_of vs)) → So (is_servable (has q.inputs.mask) o (cells_of us))
   unfolding is_servable
   still_servable o h =
-      let j = any→ (λ j. waits_on (has next.inputs) o (nth (cells_of vs) j)) (length (cells_of vs)) h in
-      let w = waits_on→ (has next.inputs) o (nth (cells_of vs) j.0) j.2 in
+      let j = any→ (λ j. waits_on (has next.inputs.mask) o (nth (cells_of vs) j)) (length (cells_of vs)) h in
+      let w = waits_on→ (has next.inputs.mask) o (nth (cells_of vs) j.0) j.2 in
       let e = still j.0 w.0 in
-      →any (λ j. waits_on (has q.inputs) o (nth (cells_of us) j)) (length (cells_of us)) j.0
+      →any (λ j. waits_on (has q.inputs.mask) o (nth (cells_of us) j)) (length (cells_of us)) j.0
       (omega (arith, j.1, ap length cells, length-set (cells_of us) k (placed 2 (nth (cells_of us) k))))
-      (rw (← e) (→waits_on (has q.inputs) o (nth (cells_of vs) j.0) w.0 (to_no (λ x. refuted (added_kept t.inputs _ x) w.1)) w.2))
+      (rw (← e) (→waits_on (has q.inputs.mask) o (nth (cells_of vs) j.0) w.0 (to_no (λ x. refuted (added_kept t.inputs _ x) w.1)) w.2))
 
   kept_take : {r : List ℕ} {s : ℕ} → Kept r q (cells_of us) s → Kept r next (cells_of vs) s
   kept_take {r} {s} h = record {
@@ -399,12 +401,12 @@ served ins cs s o y x =
     (k.0, k.1, →among ins (has s) (nth cs k.0) v.0 v.1 (ap (has s) v.2 ∙ y))
 
 -- among outputs that are kept and not taken, the oldest cell is the first candidate
-module _ {r : List ℕ} {q : Taken} {cs : List Cell} {s : ℕ} (h : Kept r q cs s) (n : (o : ℕ) → So (has s o) → No (has q.outputs o)) where
+module _ {r : List ℕ} {q : Taken} {cs : List Cell} {s : ℕ} (h : Kept r q cs s) (n : (o : ℕ) → So (has s o) → No (has q.outputs.mask o)) where
   abbrev ins : ℕ → Bool
-  ins = has q.inputs
+  ins = has q.inputs.mask
 
   abbrev outs : ℕ → Bool
-  outs = has q.outputs
+  outs = has q.outputs.mask
 
   oldest : (k : ℕ) → Oldest cs (waits_among ins (has s)) (Some k) → FirstCandidate r ins outs cs (Some k)
   oldest k t =
@@ -419,20 +421,22 @@ module _ {r : List ℕ} {q : Taken} {cs : List Cell} {s : ℕ} (h : Kept r q cs 
             (passes (has s (nth cs j).output.0)),
       )
 
-  pub kept_first : {k : ℕ} → first_among (has q.inputs) (has s) cs ≡ Some k → Some k ≡ first_candidate r (has q.inputs) (has q.outputs) cs
-  kept_first {k} e =
-      is_first r ins outs cs (Some k) (oldest k (subst (λ (x : Option ℕ). Oldest cs (waits_among ins (has s)) x) e (first-among ins s cs)))
+  pub kept_first : (x : Option ℕ) → x ≡ first_among (has q.inputs.mask) (has s) cs → So (is_some x)
+      → x ≡ first_candidate r (has q.inputs.mask) (has q.outputs.mask) cs
+  kept_first (Some k) e y =
+      is_first r ins outs cs (Some k) (oldest k (subst (λ (x : Option ℕ). Oldest cs (waits_among ins (has s)) x) (sym e) (first-among ins s cs)))
+  kept_first None e y = absurd (false≢true y)
 
 -- among the outputs with the lowest reading there is a cell where there is a candidate
 pub lows_first : {r : List ℕ} {q : Taken} {cs : List Cell} {s : ℕ} → Lows r q cs s
-    → first_among (has q.inputs) (has s) cs ≡ first_candidate r (has q.inputs) (has q.outputs) cs
+    → first_among (has q.inputs.mask) (has s) cs ≡ first_candidate r (has q.inputs.mask) (has q.outputs.mask) cs
 lows_first {r} {q} {cs} {s} w = is_first r ins outs cs _ (go (first_among ins (has s) cs) (first-among ins s cs))
   where
     ins : ℕ → Bool
-    ins = has q.inputs
+    ins = has q.inputs.mask
 
     outs : ℕ → Bool
-    outs = has q.outputs
+    outs = has q.outputs.mask
 
     go : (found : Option ℕ) → Oldest cs (waits_among ins (has s)) found → FirstCandidate r ins outs cs found
     go (Some k) t = oldest (kept_lows w) (λ o x. denied _ (w.all.inside o x).0) k t
@@ -445,23 +449,23 @@ lows_first {r} {q} {cs} {s} w = is_first r ins outs cs _ (go (first_among ins (h
 -- Rounds of picking ------------------------------------------------------------------------------
 
 -- after i rounds on the table ws: what was picked shows, the queues are the table's, and the outputs kept stay those with the lowest reading
-pub record AfterRounds (n : ℕ) (r ws us qs : List ℕ) (q : Taken) (ns : List ℕ) (lows i : ℕ) : Type 0 where
+pub record AfterRounds (n : ℕ) (r ws us : List ℕ) (qs : PairQueues) (q : Taken) (ns : List ℕ) (lows i : ℕ) : Type 0 where
   pub rounds : i ≤ n
   pub shows : Shows ws (picks r (cells_of ws) i) us q ns
   pub queues : Queues All (cells_of us) qs
   pub kept : Kept r q (cells_of us) lows
 
-pub rounds_none : (n : ℕ) (r ws qs : List ℕ) (q : Taken) (ns : List ℕ) → Queues All (cells_of ws) qs → q.inputs ≡ 0 → q.outputs ≡ 0 → length ns ≡ most_ports
+pub rounds_none : (n : ℕ) (r ws : List ℕ) (qs : PairQueues) (q : Taken) (ns : List ℕ) → Queues All (cells_of ws) qs → q.inputs.mask ≡ 0 → q.outputs.mask ≡ 0 → length ns ≡ most_ports
     → AfterRounds n r ws ws qs q ns 0 0
 rounds_none n r ws qs q ns h i o l =
     record { rounds = omega arith; shows = rw (over_zero _ _) (shows-none ws q ns i o l); queues = h; kept = kept_none r q (cells_of ws) }
 
-module _ {n : ℕ} {r ws us qs : List ℕ} {q : Taken} {ns : List ℕ} {lows i : ℕ} (a : AfterRounds n r ws us qs q ns lows i) where
+module _ {n : ℕ} {r ws us : List ℕ} {qs : PairQueues} {q : Taken} {ns : List ℕ} {lows i : ℕ} (a : AfterRounds n r ws us qs q ns lows i) where
   -- all rounds, or a round that finds nothing
   pub rounds_all : i ≡ n → Picked n r ws us qs q ns
   rounds_all e = record { shows = rw (← picks_all r (cells_of ws) n, ← e) a.shows; queues = a.queues }
 
-  module _ {found : Option ℕ} (e : found ≡ first_candidate r (has q.inputs) (has q.outputs) (cells_of us)) where
+  module _ {found : Option ℕ} (e : found ≡ first_candidate r (has q.inputs.mask) (has q.outputs.mask) (cells_of us)) where
     pub rounds_stop : found ≡ None → Picked n r ws us qs q ns
     rounds_stop none =
         record { shows = rw (stops r (cells_of ws) i n a.rounds (sym (finds a.shows r) ∙ sym e ∙ none)) at a.shows; queues = a.queues }
@@ -493,7 +497,7 @@ module _ {n : ℕ} {r ws us qs : List ℕ} {q : Taken} {ns : List ℕ} {lows i :
             };
           }
 
-      pub rounds_more : {vs qs' : List ℕ} {next : Taken} {ms : List ℕ} {lows' : ℕ} → i < n → Kept r q (cells_of us) lows' → Takes us q ns k vs qs' next ms
+      pub rounds_more : {vs : List ℕ} {qs' : PairQueues} {next : Taken} {ms : List ℕ} {lows' : ℕ} → i < n → Kept r q (cells_of us) lows' → Takes us q ns k vs qs' next ms
           → AfterRounds n r ws vs qs' next ms lows' (i + 1)
       rounds_more l h t =
           record {

@@ -22,6 +22,7 @@ use Rattle.words.specs.Words.{with_records}
 use Rattle.words.proofs.Words.{with_long}
 use Rattle.ideal.specs.Match.{taken→, match_waits}
 use Rattle.ideal.specs.Phases.{length_moved}
+use Rattle.queues.specs.declared.PairQueues.{PairQueues}
 use Rattle.queues.specs.Queues.{All, Queues}
 use Rattle.matching.specs.declared.Taken.{Taken}
 use Rattle.matching.specs.Ready.{Orderly}
@@ -44,12 +45,12 @@ module _ {n : ℕ} {ws : List ℕ} (order : Orderly n ws) (r : List ℕ) {us : L
   cs = cells_of ws
 
   -- the record of a taken output
-  serves : (o : ℕ) → So (has q.outputs o) → (k : ℕ) × (k < length cs) × So (match_of n r cs k) × ((nth cs k).output.0 ≡ o) × ((nth cs k).place ≡ 1)
+  serves : (o : ℕ) → So (has q.outputs.mask o) → (k : ℕ) × (k < length cs) × So (match_of n r cs k) × ((nth cs k).output.0 ≡ o) × ((nth cs k).place ≡ 1)
   serves o x =
       let d = taken→ cs (match_of n r cs) (output_of o) (sym (s.outputs o) ∙ x) in
       (d.0, d.1, d.2, d.3, (match_waits n r cs d.0 d.2).1)
 
-  pub shows_writable : Writable q.outputs ns n
+  pub shows_writable : Writable q.outputs.mask ns n
   shows_writable =
       record {
         below = λ o x. let d = serves o x in rw (← d.3) (order.inside.outputs d.0 d.1 d.4);
@@ -62,7 +63,7 @@ module _ {n : ℕ} {ws : List ℕ} (order : Orderly n ws) (r : List ℕ) {us : L
   chosen : ℕ → ℕ → Bool
   chosen o k = match_of n r cs k && same_output (nth cs k).output (output_of o)
 
-  shown_word : (o : ℕ) (x : Option ℕ) → Least (chosen o) ltb (length cs) x → cond (has q.outputs o) (suc (get_or ns o 0)) 0 ≡ served_word cs x
+  shown_word : (o : ℕ) (x : Option ℕ) → Least (chosen o) ltb (length cs) x → cond (has q.outputs.mask o) (suc (get_or ns o 0)) 0 ≡ served_word cs x
   unfolding chosen same_output is_taken_output
   shown_word o (Some k) d =
       let b = both (match_of n r cs k) _ d.1 in
@@ -72,7 +73,7 @@ module _ {n : ℕ} {ws : List ℕ} (order : Orderly n ws) (r : List ℕ) {us : L
   shown_word o None d =
       cond_false _ (suc (get_or ns o 0)) 0 (s.outputs o ∙ to_no (λ x. let k = any→ (chosen o) (length cs) x in d k.0 k.1 k.2))
 
-  pub shows-words : (vs : List ℕ) → length vs ≡ n → Written (has q.outputs) ns vs → vs ≡ match_words n (match_of n r (cells_of ws)) (cells_of ws)
+  pub shows-words : (vs : List ℕ) → length vs ≡ n → Written (has q.outputs.mask) ns vs → vs ≡ match_words n (match_of n r (cells_of ws)) (cells_of ws)
   unfolding match_words chosen
   shows-words vs l w =
       ext_get_or 0 vs (match_words n (match_of n r cs) cs) (l ∙ sym (length-tabulate _ n))
@@ -82,21 +83,21 @@ module _ {n : ℕ} {ws : List ℕ} (order : Orderly n ws) (r : List ℕ) {us : L
       ∙ sym (get_or-tabulate (λ o. served_word cs (lowest (chosen o) (length cs))) n 0 o (rw l at m)))
 
   -- as many ports are in the mask as cells move
-  pub shows_moves : count (has q.outputs) mask_ports ≡ moves n (match_of n r (cells_of ws)) (cells_of ws)
+  pub shows_moves : count (has q.outputs.mask) mask_ports ≡ moves n (match_of n r (cells_of ws)) (cells_of ws)
   unfolding moves
   shows_moves =
-      count-above (has q.outputs) n mask_ports order.small
+      count-above (has q.outputs.mask) n mask_ports order.small
       (λ o a b x. let d = serves o x in omega (arith, d.3, order.inside.outputs d.0 d.1 d.4))
-      ∙ count_same (has q.outputs) (λ o. is_taken_output (match_of n r cs) cs (output_of o)) n (λ o l x. sym (s.outputs o) ∙ x) (λ o l x. s.outputs o ∙ x)
+      ∙ count_same (has q.outputs.mask) (λ o. is_taken_output (match_of n r cs) cs (output_of o)) n (λ o l x. sym (s.outputs o) ∙ x) (λ o l x. s.outputs o ∙ x)
 
 -- one phase: the table, its queues, the words and the number of moves
-pub record Transferred (n : ℕ) (r table table' qs ws : List ℕ) (q : ℕ) : Type 0 where
+pub record Transferred (n : ℕ) (r table table' : List ℕ) (qs : PairQueues) (ws : List ℕ) (q : ℕ) : Type 0 where
   pub words : table' ≡ with_records table (phase n r (cells_of table))
   pub queues : Queues All (cells_of table') qs
   pub matched : ws ≡ match_words n (match_of n r (cells_of table)) (cells_of table)
   pub moved : q ≡ moves n (match_of n r (cells_of table)) (cells_of table)
 
-pub transferred_long : {n : ℕ} {r table table' qs ws : List ℕ} {q : ℕ} → Transferred n r table table' qs ws q → length table' ≡ length table
+pub transferred_long : {n : ℕ} {r table table' : List ℕ} {qs : PairQueues} {ws : List ℕ} {q : ℕ} → Transferred n r table table' qs ws q → length table' ≡ length table
 unfolding phase
 transferred_long {n} {r} {table} t =
     with_long table (phase n r (cells_of table)) t.words (length_moved (match_of n r (cells_of table)) (cells_of table))

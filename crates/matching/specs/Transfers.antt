@@ -25,6 +25,7 @@ use Rattle.words.specs.Words.{same-records, with_records}
 use Rattle.words.proofs.Words.{with_long, with_cells, with_then, with_own}
 use Rattle.ideal.specs.InPorts.{InPorts, in_ports_phases}
 use Rattle.ideal.specs.Phases.{length_moved, moved_no, phases_zero, length-phases}
+use Rattle.queues.specs.declared.PairQueues.{PairQueues}
 use Rattle.queues.specs.Queues.{All, Queues}
 use Rattle.matching.specs.Ready.{Orderly, Ready}
 use Rattle.matching.specs.Transfer.{Transferred}
@@ -172,7 +173,7 @@ rows_next n r cs j at ms ys post a e y =
 -- Phase by phase -------------------------------------------------------------------------------------
 
 -- after j phases of s on the table ws: the table, its queues, and the rows of match words so far; the next row begins at `at`
-pub record AfterPhases (n s : ℕ) (r ws us qs ms : List ℕ) (j at : ℕ) : Type 0 where
+pub record AfterPhases (n s : ℕ) (r ws us : List ℕ) (qs : PairQueues) (ms : List ℕ) (j at : ℕ) : Type 0 where
   pub few : j ≤ s
   pub place : at ≡ j * n
   pub words : us ≡ with_records ws (phases n r (cells_of ws) j)
@@ -180,7 +181,7 @@ pub record AfterPhases (n s : ℕ) (r ws us qs ms : List ℕ) (j at : ℕ) : Typ
   pub long : length ms ≡ s * n
   pub rows : take (j * n) ms ≡ blocks j (row_of n r (cells_of ws))
 
-pub phases-none : (n s : ℕ) (r ws qs ms : List ℕ) → Queues All (cells_of ws) qs → length ms ≡ s * n → AfterPhases n s r ws ws qs ms 0 0
+pub phases-none : (n s : ℕ) (r ws : List ℕ) (qs : PairQueues) (ms : List ℕ) → Queues All (cells_of ws) qs → length ms ≡ s * n → AfterPhases n s r ws ws qs ms 0 0
 phases-none n s r ws qs ms q l =
     let z : 0 * n ≡ 0 = omega arith in
     record {
@@ -192,7 +193,7 @@ phases-none n s r ws qs ms q l =
       rows = ap (λ n. take n ms) z ∙ sym (blocks_zero _);
     }
 
-module _ {n s : ℕ} {r ws us qs ms : List ℕ} {j at : ℕ} (a : AfterPhases n s r ws us qs ms j at) where
+module _ {n s : ℕ} {r ws us : List ℕ} {qs : PairQueues} {ms : List ℕ} {j at : ℕ} (a : AfterPhases n s r ws us qs ms j at) where
   pub phases_long : length us ≡ length ws
   phases_long = length-after n r ws us j a.words
 
@@ -212,7 +213,7 @@ module _ {n s : ℕ} {r ws us qs ms : List ℕ} {j at : ℕ} (a : AfterPhases n 
   )
 
   -- one more phase, whose row ys stands in the place of what stood there
-  module _ {us' qs' ys : List ℕ} {q : ℕ} (l : j < s) (t : Transferred n r us us' qs' ys q) (post : List ℕ)
+  module _ {us' : List ℕ} {qs' : PairQueues} {ys : List ℕ} {q : ℕ} (l : j < s) (t : Transferred n r us us' qs' ys q) (post : List ℕ)
       (same : length (take at ms ++ (ys ++ post)) ≡ length ms) where
     pub phases_more : AfterPhases n s r ws us' qs' (take at ms ++ (ys ++ post)) (j + 1) (at + n)
     phases_more = record {

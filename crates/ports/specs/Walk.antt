@@ -1,12 +1,11 @@
 -- A walk over a set of ports: what a turn of it gives and leaves.
 -- Assumes nothing.
-use Rattle.std.specs.Prelude.{◌≡◌, ℕ, ◌^◌, ◌<◌, ltb, Option, Some, None}
-use Rattle.laws.specs.Tests.{to_no}
-use Rattle.laws.specs.Least.{Least, lowest}
-use Rattle.laws.proofs.Least.{lowest_is, lowest_nothing}
+use Rattle.std.specs.Prelude.{◌≡◌, ℕ, Option, Some, None}
+use Rattle.laws.specs.Least.{lowest}
+use Rattle.laws.proofs.Least.{lowest_nothing}
 use Rattle.ports.specs.declared.Ports.{Ports}
 use Rattle.ports.specs.Ports.{mask_ports, has, Visits}
-use Rattle.ports.specs.PortLaws.{has-none, none_inside}
+use Rattle.ports.specs.PortLaws.{has-none}
 
 -- the lowest port that is left is visited; the walk ends where none is
 abbrev pub Walks : Ports → Option ℕ → Ports → Type 0
@@ -15,9 +14,3 @@ Walks s None t = s.left.mask ≡ 0
 
 pub lowest_empty : lowest (has 0) mask_ports ≡ None
 lowest_empty = lowest_nothing (has 0) mask_ports (λ q l. has-none q)
-
--- where no port is left the mask is 0
-pub lowest_none : (m : ℕ) → m < 2 ^ mask_ports → lowest (has m) mask_ports ≡ None → m ≡ 0
-lowest_none m h e =
-    let none : Least (has m) ltb mask_ports None = rw e at (lowest_is (has m) mask_ports) in
-    none_inside m h (λ q l. to_no (none q l))

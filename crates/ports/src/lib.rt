@@ -1,7 +1,7 @@
 // Sets of ports as 16-bit masks: "the taken inputs and the taken outputs are two sets of ports". Port q is in the set when binary digit q is 1.
 #![tactic(auto)]
 
-ghost use Rattle.std.specs.Prelude.{◌≡◌, true, ◌<◌, eqb};
+ghost use Rattle.std.specs.Prelude.{◌≡◌, true, ◌<◌, eqb, IfNone};
 ghost use Rattle.std.specs.Iterator.{at_most};
 ghost use Rattle.laws.specs.Count.{count};
 ghost use Rattle.laws.specs.Least.{lowest as lowest_of};
@@ -88,7 +88,8 @@ impl PortSet {
     // The lowest port of the set. The zeros below the lowest one are as many as that one's number.
     #[tactic(auto, using(crate::specs::PortLaws::lowest_by_trailing, crate::specs::Walk::lowest_empty))]
     pub fn lowest(self) -> Option<u32>
-        ensures { result ≡ lowest_of (has self.mask) mask_ports }
+        ensures lowest { result ≡ lowest_of (has self.mask) mask_ports }
+        ensures empty { IfNone result (self.mask ≡ 0) }
     {
         if self.is_empty() {
             return None;

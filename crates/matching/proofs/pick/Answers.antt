@@ -1,19 +1,22 @@
 -- A round that finds a record picks one more; one that finds none is the last.
-use Rattle.std.proofs.Common.{refl, arith}
+use Rattle.std.proofs.Common.{arith}
 use Rattle.matching.specs.Rounds.{rounds_none, rounds_all, rounds_stop, rounds_take, rounds_more}
 use Rattle.matching.proofs.pick.Goals as goal
 
 pub rounds-init : goal.rounds-init
-rounds-init c = rounds_none _ _ _ _ _ _ c.requires.ready.queues refl refl c.requires.served_len
+rounds-init c =
+    rw c.default-lows.ensures (rounds_none _ _ _ _ _ _ c.requires.queues c.default-taken.ensures.0 c.default-taken.ensures.1 (omega arith))
+
+pub first_candidate-candidate-requires : goal.first_candidate-candidate-requires
+first_candidate-candidate-requires c = record { lined_up = c.rounds.invariant.queues; kept = c.rounds.invariant.kept }
 
 pub take-taken-requires : goal.take-taken-requires
-take-taken-requires c =
-    rounds_take c.rounds.invariant c.first_candidate-candidate.ensures.first c.in-Some.is c.requires.ready.orderly
+take-taken-requires c = rounds_take c.rounds.invariant c.first_candidate-candidate.ensures.first c.in-Some.is c.requires.orderly
 
 pub rounds-preserved : goal.rounds-preserved
 rounds-preserved c =
     let e = c.first_candidate-candidate.ensures in
-    rounds_more c.rounds.invariant e.first c.in-Some.is c.requires.ready.orderly c.rounds-test.true e.kept_next c.take-taken.ensures
+    rounds_more c.rounds.invariant e.first c.in-Some.is c.requires.orderly c.rounds-test.true e.kept_next c.take-taken.ensures
 
 pub returns-after-rounds : goal.returns-after-rounds
 returns-after-rounds c = rounds_all c.rounds.invariant (omega (arith, c.rounds.invariant.rounds))

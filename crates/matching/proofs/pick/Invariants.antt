@@ -1,11 +1,7 @@
 -- After i rounds the table, the taken ports and the inputs served show the cells that i rounds of the rules pick, and the queues are the table's;
 -- the outputs kept stay those with the lowest reading.
-use Rattle.std.proofs.Common.{◌-◌}
 use Rattle.matching.specs.Rounds.{AfterRounds}
 use Rattle.matching.proofs.pick.Given as goal
 
 abbrev pub invariant-rounds : goal.invariant-rounds
-invariant-rounds l = AfterRounds l.ports l.r.counts l.fn.table l.table l.queues l.taken l.served l.lows l.round
-
-abbrev pub decreases-rounds : goal.decreases-rounds
-decreases-rounds l = l.ports - l.round
+invariant-rounds l = AfterRounds l.ports l.r.counts l.fn.table l.table l.queues l.taken l.served l.lows.mask l.counter

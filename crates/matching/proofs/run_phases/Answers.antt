@@ -1,31 +1,34 @@
 -- A phase writes its row of words in its place; where one moves nothing, the table stays and the words behind its row become 0.
-use Rattle.std.proofs.Common.{refl, arith}
+use Rattle.std.proofs.Common.{refl, rules, arith}
 use borrow.Rule.Slice.PartMut.{same_len_mid}
 use Rattle.matching.specs.Transfers.{phases-none, phases-ready, phases_more, phases_quiet, phases_all}
 use Rattle.matching.proofs.run_phases.Goals as goal
 
-pub loop-j-init : goal.loop-j-init
-loop-j-init c = phases-none _ _ _ _ _ _ c.requires.ready.queues c.requires.matches_len
+pub loop-init : goal.loop-init
+loop-init c = phases-none _ _ _ _ _ _ c.requires.ready.queues c.requires.matches_len
 
 pub transfer-moved-requires-clause-ready : goal.transfer-moved-requires-clause-ready
-transfer-moved-requires-clause-ready c = phases-ready c.loop-j.invariant c.requires.ready.orderly
+transfer-moved-requires-clause-ready c = phases-ready c.loop.invariant c.requires.ready.orderly
 
 pub returns-then-moved-eq0-clause-table_after : goal.returns-then-moved-eq0-clause-table_after
 returns-then-moved-eq0-clause-table_after c =
-    let same = same_len_mid _ _ c.loop-j.matches _ c.transfer-moved.auto.words in
-    (phases_quiet c.loop-j.invariant c.loop-j-test.true c.transfer-moved.ensures _ same c.requires.ready.orderly c.if-moved-eq0.true _ _ refl
-    c.clear.ensures).0
+    let same = same_len_mid _ _ c.loop.matches _ c.transfer-moved.auto.words in
+    (phases_quiet c.loop.invariant c.loop-test.true c.transfer-moved.ensures _ same c.requires.ready.orderly c.if-moved-eq0.true _ _ refl
+    (c.fill.ensures.after (λ y h. search rules))).0
 
 pub returns-then-moved-eq0-clause-matches_after : goal.returns-then-moved-eq0-clause-matches_after
 returns-then-moved-eq0-clause-matches_after c =
-    let same = same_len_mid _ _ c.loop-j.matches _ c.transfer-moved.auto.words in
-    (phases_quiet c.loop-j.invariant c.loop-j-test.true c.transfer-moved.ensures _ same c.requires.ready.orderly c.if-moved-eq0.true _ _ refl
-    c.clear.ensures).1
+    let same = same_len_mid _ _ c.loop.matches _ c.transfer-moved.auto.words in
+    (phases_quiet c.loop.invariant c.loop-test.true c.transfer-moved.ensures _ same c.requires.ready.orderly c.if-moved-eq0.true _ _ refl
+    (c.fill.ensures.after (λ y h. search rules))).1
 
-pub loop-j-preserved : goal.loop-j-preserved
-loop-j-preserved c =
-    let same = same_len_mid _ _ c.loop-j.matches _ c.transfer-moved.auto.words in
-    phases_more c.loop-j.invariant c.loop-j-test.true c.transfer-moved.ensures _ same
+pub loop-preserved : goal.loop-preserved
+loop-preserved c =
+    let same = same_len_mid _ _ c.loop.matches _ c.transfer-moved.auto.words in
+    phases_more c.loop.invariant c.loop-test.true c.transfer-moved.ensures _ same
+
+pub returns-clause-table_after : goal.returns-clause-table_after
+returns-clause-table_after c = (phases_all c.loop.invariant (omega (arith, c.loop.invariant.few))).0
 
 pub returns-clause-matches_after : goal.returns-clause-matches_after
-returns-clause-matches_after c = (phases_all c.loop-j.invariant (omega (arith, c.loop-j.invariant.few))).1
+returns-clause-matches_after c = (phases_all c.loop.invariant (omega (arith, c.loop.invariant.few))).1

@@ -1,7 +1,6 @@
 -- Each part is what the call for it says, of the cell that was read.
 use Rattle.std.proofs.Common.{ap, set}
 use Rattle.rules.specs.declared.Cell.{Cell}
-use Rattle.ports.specs.PortLaws.{added}
 use Rattle.matching.specs.Ready.{taken_stale, taken_queues}
 use Rattle.matching.proofs.take.Goals as goal
 
@@ -14,7 +13,7 @@ returns c =
     record {
       table = c.set_place.ensures;
       queues = taken_queues c.requires e c.set_place.ensures c.renew.ensures;
-      inputs = rw (← e) (added c.with.ensures);
-      outputs = rw (← e) (added c.with-2.ensures);
+      inputs = rw (← e) c.with.ensures.inputs;
+      outputs = rw (← e) c.with.ensures.outputs;
       served = ap (λ (d : Cell). set c.args.served.now d.output.0 d.input.0) e;
     }

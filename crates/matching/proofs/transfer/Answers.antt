@@ -18,5 +18,5 @@ returns c =
       words = s.table;
       queues = c.pick-taken.ensures.queues;
       matched = shows-words o _ s _ (w.words_len_unchanged ∙ c.requires.words_len) w.written;
-      moved = c.size.ensures ∙ shows_moves o _ s;
+      moved = c.len.ensures ∙ shows_moves o _ s;
     }

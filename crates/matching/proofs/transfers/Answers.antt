@@ -1,9 +1,12 @@
--- The queues are lined up from zeros, and the phases run by them.
+-- The waiting cells are lined up, and the phases run by their queues.
 use Rattle.queues.specs.Lining.{lined_up_lem}
 use Rattle.matching.specs.Ready.{orderly_lineable}
 use Rattle.matching.proofs.transfers.Goals as goal
 
+pub line_up-queues-requires : goal.line_up-queues-requires
+line_up-queues-requires c = orderly_lineable c.requires.orderly
+
 pub run_phases-requires-clause-ready : goal.run_phases-requires-clause-ready
 run_phases-requires-clause-ready c =
     let o = c.requires.orderly in
-    record { orderly = o; queues = rw c.line_up.ensures (lined_up_lem (orderly_lineable o)) }
+    record { orderly = o; queues = rw c.line_up-queues.ensures (lined_up_lem (orderly_lineable o)) }

@@ -4,11 +4,8 @@ use Rattle.laws.specs.SetWalk.{Walked, Filled}
 use Rattle.ports.specs.Ports.{has}
 use Rattle.matching.proofs.write_words.Given as goal
 
-abbrev pub invariant-loop-left : goal.invariant-loop-left
-invariant-loop-left l = record {
-  long : length l.words ≡ length l.initial.words;
-  walk : Walked (Filled (λ o. suc (get_or l.fn.served o 0))) (has l.outputs) (has l.left) l.words;
+abbrev pub invariant-loop-o : goal.invariant-loop-o
+invariant-loop-o l = record {
+  long : length l.words ≡ length l.fn.words;
+  walk : Walked (Filled (λ o. suc (get_or l.served o 0))) (has l.fn.outputs.mask) (has l.o-iterator.left.mask) l.words;
 }
-
-abbrev pub decreases-loop-left : goal.decreases-loop-left
-decreases-loop-left l = l.left
