@@ -1,10 +1,11 @@
 -- What the code's checks work out, row by row and group by group.
 -- Assumes nothing.
-use Rattle.std.specs.Prelude.{◌≡◌, Bool, not, ◌||◌, List, ℕ}
-use Rattle.std.proofs.Common.{sym, ap, ◌∙◌}
+use Rattle.std.specs.Prelude.{◌≡◌, Bool, not, ◌||◌, List, ℕ, Ok, Err}
+use Rattle.std.proofs.Common.{sym, ap, ◌∙◌, refl}
 use Rattle.std.proofs.Math.Bool.{So}
-use Rattle.std.proofs.lemmas.Bool.{not-true, not-false}
 use Rattle.laws.specs.Tests.{No}
+use Rattle.rules.specs.declared.Refusal.{Refusal}
+use Rattle.rules.specs.declared.Refusal.TheVariants.{BadPorts, BadSpeedup, BadRecords, Unfit, BadLists, NoSuchOutput, ClockSpent, NoRoom}
 use Rattle.rules.specs.Cells.{most_records, is_whole, records}
 use Rattle.rules.specs.Answers.{Answer, is_done, outside}
 
@@ -12,10 +13,21 @@ use Rattle.rules.specs.Answers.{Answer, is_done, outside}
 unfoldable pub size_unfit : List ℕ → Bool
 size_unfit table = not (is_whole table) || outside (records table) most_records
 
--- what the code tests of a group's answer, told of what the group's rows give
-module _ {g a : Answer} {b : Bool} (e : g ≡ a) (d : b ≡ is_done g) where
-  pub group_passed : No (not b) → So (is_done a)
-  group_passed h = ap is_done (sym e) ∙ sym d ∙ not-false b h
+-- what the code sees of a group's answer, told of what the group's rows give
+pub group_passed : {u : Unit} {a : Answer} → Ok u ≡ a → So (is_done a)
+unfolding is_done
+group_passed e = ap is_done (sym e)
 
-  pub group_refused : So (not b) → No (is_done a)
-  group_refused h = ap is_done (sym e) ∙ sym d ∙ not-true b h
+refusal : (r : Refusal) → No (is_done (Err r))
+unfolding is_done
+refusal BadPorts = refl
+refusal BadSpeedup = refl
+refusal BadRecords = refl
+refusal Unfit = refl
+refusal BadLists = refl
+refusal NoSuchOutput = refl
+refusal ClockSpent = refl
+refusal NoRoom = refl
+
+pub group_refused : {r : Refusal} {a : Answer} → Err r ≡ a → No (is_done a)
+group_refused {r} e = ap is_done (sym e) ∙ refusal r

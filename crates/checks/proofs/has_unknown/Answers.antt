@@ -1,16 +1,16 @@
--- The first word that is above N is found; where none is, none was found.
-use Rattle.std.proofs.Common.{sym, arith, lt-ltb, le-ltb}
-use Rattle.laws.specs.Count.{any_none, any_more, →any}
+-- The code searches the range of the inputs by the rules' test.
+use Rattle.std.specs.Prelude.{ℕ, Bool, ltb}
+use Rattle.std.proofs.Common.{rules, tests, arith, refl, ◌∙◌}
+use Rattle.std.proofs.lemmas.Iterator.{YieldsList-from_range}
+use Rattle.std.proofs.lemmas.Iterator.Search.{any_from_yields_List}
 use Rattle.rules.specs.Answers.{first_word}
+use Rattle.checks.proofs.Ranges.{any_range}
 use Rattle.checks.proofs.has_unknown.Goals as goal
 
-pub loop-i-init : goal.loop-i-init
-loop-i-init c = record { below_ports = omega arith; none_above = any_none _ }
-
-pub returns-then-ports-arrivals : goal.returns-then-ports-arrivals
+pub returns : goal.returns
 unfolding first_word
-returns-then-ports-arrivals c = sym (→any _ _ _ c.loop-i-test.true (lt-ltb _ _ c.if-ports-arrivals.true))
-
-pub loop-i-preserved : goal.loop-i-preserved
-unfolding first_word
-loop-i-preserved c = record { below_ports = omega arith; none_above = any_more _ _ c.loop-i.invariant.none_above (le-ltb _ _ c.if-ports-arrivals.false) }
+returns c =
+    let n = c.args.ports in
+    let above : ℕ → Bool = λ i. ltb n (first_word c.args.arrivals.now i) in
+    any_from_yields_List above _ _ c.any.result c.any.ensures.ran (YieldsList-from_range 0 n n refl (omega arith)) (λ x b q k. search (rules, tests))
+    ∙ any_range above n
