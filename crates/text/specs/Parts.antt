@@ -11,10 +11,10 @@ use Rattle.std.proofs.Math.ListN.{length, get_or}
 use Rattle.laws.specs.Tests.{No, both, either, on_right, neither, refuted, denied, deny}
 use Rattle.laws.specs.Folds.{fold, fold_join, fold_more, each, each_join, each_more, each_as}
 use Rattle.laws.specs.Pieces.{part, part_none, part_join, part_more, part-first}
-use Rattle.text.specs.declared.Number.{Number}
-use Rattle.text.specs.declared.Number.TheVariants.{Empty, Value, NoNumber}
-use Rattle.text.specs.declared.Field.{Field}
-use Rattle.text.specs.declared.Field.TheVariants.{Start, Dash, Output, Tag, NoField}
+use Rattle.text.specs.declared.number.Number.{Number}
+use Rattle.text.specs.declared.number.Number.TheVariants.{Empty, Value, NoNumber}
+use Rattle.text.specs.declared.field.Field.{Field}
+use Rattle.text.specs.declared.field.Field.TheVariants.{Start, Dash, Output, Tag, NoField}
 use Rattle.text.specs.declared.SlotReader.{SlotReader}
 use Rattle.characters.specs.Characters.{space, newline, dash, colon, is_digit, push}
 use Rattle.text.specs.Lines.{largest_number}
