@@ -102,6 +102,7 @@ fn read_value(value: u32, piece: &mut Piece<'_>, stop: u8) -> Number
 }
 
 // The digits that fit, up to a byte that makes the number none.
+#[tactic(auto, using(std::proofs::lemmas::Option::slice_get_within))]
 fn read_digits(value: u32, piece: &mut Piece<'_>) -> u32
     ensures taken { Grows piece.old.bytes.now value piece.old.next result piece.new.next }
     ensures same_bytes { piece.new.bytes.now ≡ piece.old.bytes.now }

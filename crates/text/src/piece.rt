@@ -1,6 +1,7 @@
 // The piece that the input has come to, and how far it was read.
 
-ghost use Rattle.std.specs.Prelude.{◌≤◌, length};
+ghost use Rattle.std.specs.Prelude.{◌≤◌, ◌≡◌, length, position};
+ghost use Rattle.text.specs.Parts.{ends};
 
 use characters::{NEWLINE, SPACE};
 
@@ -13,8 +14,8 @@ pub struct Piece<'a> {
 }
 
 impl Piece<'_> {
-    ghost use Rattle.std.specs.Prelude.{◌+◌, ◌<◌, ◌≡◌, slice_get};
-    ghost use Rattle.text.specs.Parts.{ends, Upto};
+    ghost use Rattle.std.specs.Prelude.{◌+◌, ◌<◌, slice_get};
+    ghost use Rattle.text.specs.Parts.{Upto};
 
     // The first byte that was not taken. At the piece's end there is none.
     #[inline(always)]
@@ -35,18 +36,28 @@ impl Piece<'_> {
 
     // Takes the bytes before the first that is `stop` or ends a field.
     #[inline(always)]
+    #[tactic(auto, using(crate::specs::Parts::upto_first))]
     pub(crate) fn skip(&mut self, stop: u8)
         ensures place { Upto (ends stop) self.old.bytes.now self.old.next self.new.next }
         ensures same_bytes { self.new.bytes.now ≡ self.old.bytes.now }
     {
         let rest = &self.bytes[self.next..];
-        self.next += rest
-            .iter()
-            .position(|byte| ends(*byte, stop))
-            .unwrap_or(rest.len());
+        self.next += end_in(rest, stop).unwrap_or(rest.len());
     }
 }
 
-fn ends(byte: u8, stop: u8) -> bool {
+// The place of the first byte that is `stop` or ends a field, if there is one.
+#[inline(always)]
+fn end_in(bytes: &[u8], stop: u8) -> Option<usize>
+    ensures { result ≡ position (ends stop) bytes.now }
+{
+    bytes.iter().position(|byte| ends(*byte, stop))
+}
+
+#[inline(always)]
+#[tactic(auto, using(std::proofs::lemmas::Bool::Decides::nat_tests), unfolding(crate::specs::Parts::ends))]
+fn ends(byte: u8, stop: u8) -> bool
+    ensures { result ≡ ends stop byte }
+{
     byte == stop || byte == SPACE || byte == NEWLINE
 }

@@ -1,6 +1,12 @@
-use Rattle.std.proofs.Common.{rules, ◌≤◌, length, ◌+◌, ◌<◌, ◌≡◌, slice_get, ℕ, ◌-◌, ◌*◌, ◌/◌, ◌%◌, Bool, true, false, nat_eq, nat_lt, List, [], ◌∷◌, ◌++◌, slice_index_or, slice_set, bit_and, bit_or, Fits, w8, w32, w64, Bor, MutBor}
-use Rattle.text.specs.Parts.{ends, Upto}
+-- The bytes before the first that ends what is read, counted from the place that the reading has come to.
+-- Assumes nothing.
+use Rattle.std.proofs.Common.{◌≡◌, ◌-◌, length, arith, take, drop, take_all, length-drop}
+use Rattle.text.specs.Parts.{upto_first}
 use Rattle.text.proofs.piece.Piece.skip.Goals as goal
 
 pub returns-clause-place : goal.returns-clause-place
-returns-clause-place c = let a = c.position.ensures.runs in let b = c.position.ensures.bound in let d = c.unwrap_or.ensures in let e = c.iter.ensures in ?
+returns-clause-place c =
+    let b = c.args.self.now.bytes.now in
+    let n = c.args.self.now.next in
+    let rest : take (length b - n) (drop n b) ≡ drop n b = take_all (length b - n) (drop n b) (omega (arith, length-drop n b)) in
+    rw (c.unwrap_or.ensures, c.end_in.ensures, rest) (upto_first _ b n c.args.self.now.inside)
