@@ -1,99 +1,42 @@
--- Texts put into a buffer one behind the other, and the laws of decimal numbers that printing needs: the last digit apart, and how many there are.
+-- Texts put one behind the other, and the laws of decimal numbers that printing needs: the last digit apart, and how many there are.
 -- Assumes nothing.
-use Rattle.std.specs.Prelude.{ℕ, zero, suc, ◌+◌, ◌*◌, ◌/◌, ◌%◌, ◌^◌, ◌≤◌, ◌<◌, ◌≡◌, refl, Bool, true, false, cond, List, [], ◌∷◌, ◌++◌, leb, ltb, length, take, drop, set}
-use Rattle.std.proofs.Common.{sym, ap, ◌∙◌, append_assoc, append-nil, arith, pow-suc, add-one, length-append, length-take-le, take_at, ltb-true, ltb-false, lt-ltb, le-ltb, le-leb}
+use Rattle.std.specs.Prelude.{ℕ, zero, suc, ◌+◌, ◌*◌, ◌/◌, ◌%◌, ◌^◌, ◌≤◌, ◌<◌, ◌≡◌, refl, Bool, true, false, cond, List, [], ◌∷◌, ◌++◌, leb, ltb, length}
+use Rattle.std.proofs.Common.{sym, ap, ◌∙◌, append_assoc, append-nil, arith, pow-suc, length-append, ltb-true, ltb-false, lt-ltb, le-ltb, le-leb}
 use Rattle.std.proofs.Math.Bool.{So}
 use Rattle.std.proofs.Math.Nat.{one-le-pow}
-use Rattle.std.proofs.lemmas.List.{set_comm}
-use Rattle.std.proofs.lemmas.List.Edits.{sets, sets-eq}
-use Rattle.std.proofs.Math.Seq.{length-sets}
+use Rattle.std.specs.Fmt.{decimal as std_decimal}
+use Rattle.std.proofs.lemmas.Fmt.{decimal_by_steps}
 use Rattle.laws.specs.Tests.{join}
 use Rattle.laws.specs.Folds.{fold, fold_more, each, each_more}
 use Rattle.characters.specs.Characters.{first_digit, last_digit, is_digit, digit_byte, push, value}
 use Rattle.printing.specs.Printed.{digits, decimal, number_bytes}
 
--- `text` was put at `at` into what was `old` and is `new`, and ends at r: no byte but its own was written. It takes no more than `most` bytes.
-pub record Put (most : ℕ) (old : List ℕ) (at : ℕ) (text new : List ℕ) (r : ℕ) : Type 0 where
-  pub place : r ≡ at + length text
-  pub bytes : new ≡ sets old at text
-  pub within : r ≤ at + most
+-- `text` was put behind what was `old`, and `new` is all of it. It takes no more than `most` bytes.
+pub record Put (most : ℕ) (old text new : List ℕ) : Type 0 where
+  pub bytes : new ≡ old ++ text
+  pub within : length text ≤ most
 
--- so what is put settles both the buffer and its end
-pub put_settled : {most at r q : ℕ} {old text new other : List ℕ} → Put most old at text new r → Put most old at text other q → (new ≡ other) × (r ≡ q)
-put_settled x y = (x.bytes ∙ sym y.bytes, x.place ∙ sym y.place)
+-- so what is put settles the whole
+pub put_settled : {most : ℕ} {old text new other : List ℕ} → Put most old text new → Put most old text other → new ≡ other
+put_settled x y = x.bytes ∙ sym y.bytes
 
-pub put_none : (most : ℕ) (old : List ℕ) (at : ℕ) → Put most old at [] old at
-put_none most old at = record { place = omega arith; bytes = refl; within = omega arith }
+pub put_none : (most : ℕ) (old : List ℕ) → Put most old [] old
+put_none most old = record { bytes = sym (append-nil old); within = omega arith }
 
-pub put_byte : (old : List ℕ) (at b : ℕ) → Put 1 old at (b ∷ []) (set old at b) (at + 1)
-put_byte old at b = record { place = refl; bytes = refl; within = omega arith }
+pub put_byte : (old : List ℕ) (b : ℕ) → Put 1 old (b ∷ []) (old ++ (b ∷ []))
+put_byte old b = record { bytes = refl; within = omega arith }
 
--- a text behind another
-sets_join : (l : List ℕ) (i : ℕ) (s t : List ℕ) → sets (sets l i s) (i + length s) t ≡ sets l i (s ++ t)
-sets_join l i [] t = ap (λ (k : ℕ). sets l k t) {x = i + 0} {y = i} (omega arith)
-sets_join l i (b ∷ s) t =
-    ap (λ (k : ℕ). sets (sets l i (b ∷ s)) k t) {x = i + suc (length s)} {y = suc i + length s} (omega arith) ∙ sets_join (set l i b) (suc i) s t
-
-pub put_then : {m n most at p q : ℕ} {old mid new s t : List ℕ} → Put m old at s mid p → Put n mid p t new q → m + n ≤ most → Put most old at (s ++ t) new q
-put_then {at = at} {old = old} {s = s} {t = t} x y h = record {
-  place = omega (arith, x.place, y.place, length-append s t);
-  bytes = y.bytes ∙ rw (x.bytes, x.place) (sets_join old at s t);
-  within = omega (arith, x.within, y.within);
+pub put_then : {m n most : ℕ} {old mid new s t : List ℕ} → Put m old s mid → Put n mid t new → m + n ≤ most → Put most old (s ++ t) new
+put_then {old = old} {s = s} {t = t} x y h = record {
+  bytes = y.bytes ∙ ap (λ (l : List ℕ). l ++ t) x.bytes ∙ append_assoc old s t;
+  within = omega (arith, x.within, y.within, length-append s t);
 }
 
-pub put_within : {m most at r : ℕ} {old text new : List ℕ} → Put m old at text new r → r ≤ at + most → Put most old at text new r
-put_within x h = record { place = x.place; bytes = x.bytes; within = h }
+pub put_within : {m most : ℕ} {old text new : List ℕ} → Put m old text new → m ≤ most → Put most old text new
+put_within x h = record { bytes = x.bytes; within = omega (arith, x.within) }
 
-pub put_size : {most at r : ℕ} {old text new : List ℕ} → Put most old at text new r → length new ≡ length old
-put_size {at = at} {old = old} {text = text} x = ap length x.bytes ∙ length-sets old at text
-
--- where there is room, the text stands behind what stood before it
-pub put_front : {most at r : ℕ} {old text new : List ℕ} → Put most old at text new r → r ≤ length old → take r new ≡ take at old ++ text
-put_front {at = at} {old = old} {text = text} x h =
-    rw (x.bytes, x.place) (ap (take end) (sets-eq text old at fits) ∙ take_at (take at old ++ text) (drop end old) end front)
-  where
-    end : ℕ
-    end = at + length text
-
-    fits : at + length text ≤ length old
-    fits = omega (arith, x.place, h)
-
-    front : length (take at old ++ text) ≡ end
-    front = length-append (take at old) text ∙ ap (λ (n : ℕ). n + length text) (length-take-le at old (omega (arith, fits)))
-
--- from behind ---------------------------------------------------------------------------------
-
--- of a text that is put from its end on, `front` is still to come, up to `next`; what follows it stands there
-pub record Behind (old : List ℕ) (at : ℕ) (front text new : List ℕ) (next : ℕ) : Type 0 where
-  pub back : List ℕ
-  pub whole : text ≡ front ++ back
-  pub place : next ≡ at + length front
-  pub bytes : new ≡ sets old next back
-
-pub behind-none : (old : List ℕ) (at : ℕ) (text : List ℕ) (end : ℕ) → end ≡ at + length text → Behind old at text text old end
-behind-none old at text end e = record { back = []; whole = sym (append-nil text); place = e; bytes = refl }
-
--- a byte before those that stand
-sets-before : (l : List ℕ) (i j b : ℕ) (t : List ℕ) → i < j → set (sets l j t) i b ≡ sets (set l i b) j t
-sets-before l i j b [] h = refl
-sets-before l i j b (a ∷ t) h =
-    sets-before (set l j a) i (suc j) b t (omega arith) ∙ ap (λ (m : List ℕ). sets m (suc j) t) (set_comm l j i a b (λ e. omega arith))
-
-pub behind_byte : {old more front text new : List ℕ} {at next : ℕ} (p b : ℕ) → Behind old at more text new next → more ≡ front ++ (b ∷ []) → next ≡ p + 1
-    → Behind old at front text (set new p b) p
-behind_byte {old} {front = front} p b x m e = record {
-  back = b ∷ x.back;
-  whole = x.whole ∙ ap (λ (l : List ℕ). l ++ x.back) m ∙ append_assoc front (b ∷ []) x.back;
-  place = omega (arith, x.place, ap length m, length-append front (b ∷ []));
-  bytes = rw (x.bytes, e, add-one p) (sets-before old p (suc p) b x.back (omega arith));
-}
-
-pub behind_size : {old front text new : List ℕ} {at next : ℕ} → Behind old at front text new next → length new ≡ length old
-behind_size {old} {next = next} x = ap length x.bytes ∙ length-sets old next x.back
-
-pub behind_all : {old text new : List ℕ} {at : ℕ} (end most : ℕ) → end ≡ at + length text → length text ≤ most
-    → Behind old at [] text new at → Put most old at text new end
-behind_all {old} {at = at} end most e h x = record { place = e; bytes = x.bytes ∙ ap (sets old at) (sym x.whole); within = omega arith }
+pub put_size : {most : ℕ} {old text new : List ℕ} → Put most old text new → length new ≤ length old + most
+put_size {old = old} {text = text} x = omega (arith, x.within, ap length x.bytes, length-append old text)
 
 -- a decimal number ----------------------------------------------------------------------------
 
@@ -191,3 +134,9 @@ decimal_short n h = decimal-length 9 n (omega arith)
 pub decimal-reads : (n : ℕ) → ReadsAs (decimal n) n
 unfolding decimal
 decimal-reads n = digits_read (suc n) n (omega arith)
+
+-- std's decimal digits are these
+pub decimal_std : (n : ℕ) → n < 2 ^ 64 → std_decimal n ≡ decimal n
+decimal_std =
+    decimal_by_steps (λ m ds. ds ≡ decimal m) (λ m l. sym (decimal_one m l))
+    (λ m ds l h. ap (λ (d : List ℕ). d ++ (digit_byte (m % 10) ∷ [])) h ∙ sym (decimal_more m l))
