@@ -16,11 +16,10 @@ pub record Blocks (ws : List ℕ) (k count : ℕ) : Type 0 where
   pub inside : k + count * block ≤ records ws
   pub few : count ≤ block_count
 
--- so many records from k on, of which so many blocks are listed
-pub record Within (ws : List ℕ) (k size : ℕ) (blocks : List ℕ) (count : ℕ) : Type 0 where
+-- so many records from k on
+pub record Within (ws : List ℕ) (k size : ℕ) : Type 0 where
   pub inside : k + size ≤ records ws
   pub short : size ≤ stretch_size
-  pub listed : count ≤ length blocks
 
 -- record x of the stretch that begins at record k is free
 abbrev pub Free : List ℕ → ℕ → ℕ → Type 0

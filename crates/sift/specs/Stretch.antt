@@ -1,9 +1,10 @@
 -- A stretch of the table, the records of it whose places have some of the bits that are asked for (the waiting ones, the ready ones or all live
 -- ones), and what a pass over these alone may leave out: records whose places have none of the bits, and whole blocks of them.
 -- Assumes nothing.
-use Rattle.std.specs.Prelude.{ℕ, ◌+◌, ◌-◌, ◌*◌, ◌≤◌, ◌<◌, min, ◌≡◌, Bool, List, eqb, get_or, take}
+use Rattle.std.specs.Prelude.{ℕ, ◌+◌, ◌-◌, ◌*◌, ◌≤◌, ◌<◌, min, ◌≡◌, Bool, List, eqb, length, get_or, take}
 use Rattle.std.proofs.Common.{sym, ◌∙◌, arith, add-one, add-zero}
 use Rattle.std.proofs.Math.Path.{ap}
+use Rattle.std.proofs.Math.Seq.{take-length}
 use Rattle.std.proofs.Math.Bool.{not}
 use borrow.Author.Tests.{eqb-true, eq-eqb}
 use Rattle.std.specs.Int.Bits.{bit_and}
@@ -97,6 +98,10 @@ module _ {ws : List ℕ} {k n bits : ℕ} {list : List ℕ} {m : ℕ} (d : Liste
   listed_on l i h = record {
     numbers = l.chosen (has_bits ws k bits) (λ x a b. word_has ws k bits x (omega arith) ∙ sym (h x a b (l.stays x) (l.given x a b))) d.numbers;
   }
+
+  -- the first m numbers by themselves
+  pub listed_front : {xs : List ℕ} → (xs ≡ take m list) × (length xs ≡ m) → Listed ws k n bits xs (length xs)
+  listed_front {xs} e = record { numbers = record { many = e.1 ∙ d.numbers.many; front = take-length xs ∙ e.0 ∙ d.numbers.front } }
 
   pub listed_skip : (x : ℕ) → n ≤ x → ((y : ℕ) → n ≤ y → y < x → Lacks ws k bits y) → Listed ws k x bits list m
   listed_skip x l h = record { numbers = chosen_skip (has_bits ws k bits) x d.numbers l (λ y a b. has-not ws k bits y (h y a b)) }

@@ -42,9 +42,11 @@ impl<const N: usize> Numbers<N> {
         requires callable { (x : ℕ) → from ≤ x → x < to → F.pre stays x }
         ensures { Lists (F.post stays) from to self.old.list self.old.count self.new.list self.new.count }
     {
+        let mut count = self.count;
         for x in from..to {
-            self.list[self.count] = x as u8;
-            self.count += usize::from(stays(x));
+            self.list[count] = x as u8;
+            count += usize::from(stays(x));
         }
+        self.count = count;
     }
 }

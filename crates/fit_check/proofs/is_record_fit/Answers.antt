@@ -7,14 +7,14 @@ use Rattle.fit_check.specs.Walk.{unsound, fit_more}
 use Rattle.fit_check.proofs.is_record_fit.Goals as goal
 
 -- what was asked of the cell was asked of record k
-pub returns-then-not-is_sound : goal.returns-then-not-is_sound
-returns-then-not-is_sound c =
+pub returns-else-is_sound : goal.returns-else-is_sound
+returns-else-is_sound c =
     let inside : c.args.k < length (cells_of c.args.table.now) = rw (length-cells_of c.args.table.now) c.requires.k_bound in
-    let sound = c.is_sound.ensures ∙ ap (sound_by c.args.bounds) c.cell_at-c.ensures in
-    unsound _ _ _ _ _ inside (sym sound ∙ c.if-not-is_sound.true)
+    let sound = c.is_sound.ensures ∙ ap (sound_by c.args.bounds) c.cell_at.ensures in
+    rw c.if-is_sound.false (unsound _ _ _ _ _ inside (sym sound ∙ c.if-is_sound.false))
 
-pub returns : goal.returns
-returns c =
+pub returns-then-is_sound : goal.returns-then-is_sound
+returns-then-is_sound c =
     let inside : c.args.k < length (cells_of c.args.table.now) = rw (length-cells_of c.args.table.now) c.requires.k_bound in
-    let sound = c.is_sound.ensures ∙ ap (sound_by c.args.bounds) c.cell_at-c.ensures in
-    fit_more _ _ _ c.requires.fit_so_far inside (sym sound ∙ c.if-not-is_sound.false) c.is_alone_by.ensures
+    let sound = c.is_sound.ensures ∙ ap (sound_by c.args.bounds) c.cell_at.ensures in
+    fit_more _ _ _ c.requires.fit_so_far inside (sym sound ∙ c.if-is_sound.true) c.is_alone_by.ensures

@@ -1,14 +1,11 @@
 -- The records below the next one listed are sound and alone: those that are not listed are free, where there are no strays.
-use Rattle.std.proofs.Common.{◌-◌}
+use Rattle.std.proofs.Common.{length}
 use Rattle.rules.specs.Cells.{cells_of}
 use Rattle.sift.specs.Stretch.{live_bits, Pass}
 use Rattle.fit_check.specs.Sound.{sound_by}
 use Rattle.fit_check.specs.Walk.{FitWithin}
 use Rattle.fit_check.proofs.is_stretch_fit.Given as goal
 
-abbrev pub invariant-loop-j : goal.invariant-loop-j
-invariant-loop-j l =
-    Pass (FitWithin (sound_by l.bounds) (cells_of l.table) l.k l.end l.marks) l.table l.k l.end live_bits l.list l.found.live l.j
-
-abbrev pub decreases-loop-j : goal.decreases-loop-j
-decreases-loop-j l = l.found.live - l.j
+abbrev pub invariant-loop-x : goal.invariant-loop-x
+invariant-loop-x l =
+    Pass (FitWithin (sound_by l.bounds) (cells_of l.table) l.k l.end l.marks.sets) l.table l.k l.end live_bits l.x-items (length l.x-items) l.x-index

@@ -1,10 +1,7 @@
--- The or of the words below i.
-use Rattle.std.proofs.Common.{◌≡◌, ◌-◌, ◌≤◌, length}
+-- The or of the words so far.
+use Rattle.std.proofs.Common.{◌≡◌}
 use Rattle.laws.specs.Bits.{or_to}
 use Rattle.fit_check.proofs.or_of.Given as goal
 
-abbrev pub invariant-loop-i : goal.invariant-loop-i
-invariant-loop-i l = (l.i ≤ length l.words) × (l.all ≡ or_to l.words l.i)
-
-abbrev pub decreases-loop-i : goal.decreases-loop-i
-decreases-loop-i l = length l.words - l.i
+abbrev pub invariant-loop-word : goal.invariant-loop-word
+invariant-loop-word l = l.all ≡ or_to l.words l.word-index

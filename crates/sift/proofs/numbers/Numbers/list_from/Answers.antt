@@ -10,6 +10,6 @@ pub loop-x-preserved : goal.loop-x-preserved
 loop-x-preserved g c =
     let i = c.loop-x in
     record {
-      long = length-set i.self.list i.self.count i.x ∙ i.invariant.long;
-      lists = rw (c.from.ensures, by_bool) (lists_more i.invariant.lists c.stays.result c.stays.ensures (omega arith) (omega (arith, i.invariant.lists.few c.requires.room)));
+      long = length-set i.self.list i.count i.x ∙ i.invariant.long;
+      lists = rw (c.from-count.ensures, by_bool) (lists_more i.invariant.lists c.stays.result c.stays.ensures (omega arith) (omega (arith, i.invariant.lists.few c.requires.room)));
     }
