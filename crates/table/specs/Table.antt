@@ -26,7 +26,7 @@ module _ (ws : List ℕ) (k : ℕ) (c : Cell) where
   many = length-set (cells_of ws) k c ∙ length-cells_of ws
 
   -- they are as many as they were, and so are the records
-  length-stored : length (stored ws k c) ≡ length ws
+  pub length-stored : length (stored ws k c) ≡ length ws
   length-stored = length_with ws (set (cells_of ws) k c) many
 
   pub records-stored : records (stored ws k c) ≡ records ws

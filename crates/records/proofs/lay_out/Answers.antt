@@ -1,14 +1,15 @@
--- One word more is laid, word j; after the loop there is none left to lay.
-use Rattle.std.proofs.Common.{◌<◌, ◌≤◌, arith, length}
-use Rattle.records.specs.Records.{words_to_lay}
-use Rattle.records.specs.Layout.{one_more, all_laid}
+-- One record more is laid, record k; after the loop all are.
+use Rattle.std.proofs.Common.{◌≡◌, refl, arith, length}
+use Rattle.records.specs.Layout.{within_room, one_more, all_laid}
 use Rattle.records.proofs.lay_out.Goals as goal
 
-pub loop-j-preserved : goal.loop-j-preserved
-loop-j-preserved c =
-    let more : c.loop-j.j < words_to_lay (length c.args.cells.now) = omega arith in
-    one_more c.args.cells.now c.loop-j.j c.loop-j.words c.word_of.result more c.word_of.ensures c.loop-j.invariant
+pub put_cell-requires : goal.put_cell-requires
+put_cell-requires c = within_room _ _ c.loop-k.invariant.long (omega arith)
+
+pub loop-k-preserved : goal.loop-k-preserved
+loop-k-preserved c = one_more _ _ _ _ _ (omega arith) refl c.put_cell.ensures c.loop-k.invariant
 
 pub returns : goal.returns
 returns c =
-    let over : words_to_lay (length c.args.cells.now) ≤ c.loop-j.j = omega arith in all_laid c.args.cells.now c.loop-j.j c.loop-j.words over c.loop-j.invariant
+    let e : c.loop-k.k ≡ length c.args.cells.now = omega arith in
+    all_laid _ _ (rw e at c.loop-k.invariant)
