@@ -20,6 +20,7 @@ pub enum ScanError {
 }
 
 // The records, laid out as words.
+#[tactic(auto, using(crate::specs::Layout::one_more, crate::specs::Layout::all_laid), unfolding(rules::specs::Cells::records))]
 fn lay_out(cells: &[Cell]) -> [u32; MOST_WORDS]
     requires { length cells.now ≤ most_records }
     ensures { Laid cells.now result }
@@ -32,7 +33,10 @@ fn lay_out(cells: &[Cell]) -> [u32; MOST_WORDS]
 }
 
 // What a scan of words finds in the records, laid out.
-fn scan<F: FnOnce(&[u32]) -> Option<usize>>(cells: &[Cell], find: F) -> Result<Option<usize>, ScanError>
+fn scan<F: FnOnce(&[u32]) -> Option<usize>>(
+    cells: &[Cell],
+    find: F,
+) -> Result<Option<usize>, ScanError>
     requires { F.IsAlwaysCallable find }
     ensures { Scanned (FnOnceReturnsAt F.FnOnce find) cells.now result }
 {
@@ -51,6 +55,7 @@ fn first_records(table: &[Cell; rules::MOST_RECORDS], n: usize) -> Result<&[Cell
 }
 
 // The lowest-numbered free record.
+#[tactic(auto, using(crate::specs::Layout::scanned), unfolding(crate::specs::Records::lowest_free_of))]
 pub fn lowest_free(cells: &[Cell]) -> Result<Option<usize>, ScanError>
     ensures { result ≡ lowest_free_of cells.now }
 {
@@ -66,7 +71,10 @@ pub fn oldest_ready(cells: &[Cell], o: Output) -> Result<Option<usize>, ScanErro
 
 // The same of the first n records of a table by value: whoever calls these lends no slice of records.
 #[tactic(auto, using(crate::specs::Layout::first_ones), unfolding(crate::specs::Records::lowest_free_of))]
-pub fn lowest_free_of(table: [Cell; rules::MOST_RECORDS], n: usize) -> Result<Option<usize>, ScanError>
+pub fn lowest_free_of(
+    table: [Cell; rules::MOST_RECORDS],
+    n: usize,
+) -> Result<Option<usize>, ScanError>
     ensures { result ≡ answered n (lowest_free (take n table)) }
 {
     lowest_free(first_records(&table, n)?)

@@ -4,7 +4,9 @@ use Rattle.records.specs.Layout.{too_many, not_too_many}
 use Rattle.records.proofs.scan.Goals as goal
 
 pub returns-then-cells-gt-MOST_RECORDS : goal.returns-then-cells-gt-MOST_RECORDS
-returns-then-cells-gt-MOST_RECORDS g c = let l = c.if-cells-gt-MOST_RECORDS.true in record { found = None; answer = too_many _ _ l; by_words = λ few. absurd (omega arith) }
+returns-then-cells-gt-MOST_RECORDS g c =
+    let l = c.if-cells-gt-MOST_RECORDS.true in
+    record { found = None; answer = too_many _ _ l; by_words = λ few. absurd (omega arith) }
 
 pub returns : goal.returns
 returns g c = record {
