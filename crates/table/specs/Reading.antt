@@ -65,7 +65,8 @@ module _ (ns : List ℕ) (e : length ns ≡ most_ports) (c : Cell) where
   unfolding bumped is_ready_for same_output
   one_more = rw e at (set-tabulate 0 ns out (get_or ns out 0 + bit (is_ready c))) ∙ tabulate-same 0 _ _ most_ports (λ o l. go o (eqb o out) refl)
     where
-      go : (o : ℕ) (b : Bool) → eqb o out ≡ b → cond b (get_or ns out 0 + bit (is_ready c)) (get_or ns o 0) ≡ bit (is_ready c && eqb out o) + get_or ns o 0
+      go : (o : ℕ) (b : Bool) → eqb o out ≡ b
+          → cond b (get_or ns out 0 + bit (is_ready c)) (get_or ns o 0) ≡ bit (is_ready c && eqb out o) + get_or ns o 0
       go o true q = let h : o ≡ out = eqb-true _ _ q in rw (eq-eqb out o (sym h)) (here (is_ready c) _ _ (ap (λ (x : ℕ). get_or ns x 0) (sym h)))
       go o false q = rw (ne_eqb out o (λ h. eqb-false _ _ q (sym h))) (there (is_ready c) (get_or ns o 0))
 
@@ -125,7 +126,7 @@ module _ (cs : List Cell) where
   readings_le k o =
       ⊎_elim
       (λ l. rw (at_output k o (ltb-true o most_ports l)) (count_le _ k))
-      (λ l. rw (get_or-eq_default (readings_below cs k) 0 {n = o} (rw (length-tabulate (ready_below cs k) most_ports) (ltb-false o most_ports l))) (omega arith))
+      (λ l. rw (get_or-eq_default (readings_below cs k) 0 {n = o} (rw (length-readings k) (ltb-false o most_ports l))) (omega arith))
       (passes (ltb o most_ports))
 
 -- a walk over the ready records of these words has come to where P holds of the records below

@@ -1,7 +1,7 @@
 -- What a store leaves in the lent words, where no record is free, and how many are live.
 -- Assumes nothing.
 use Rattle.std.specs.Prelude.{ℕ, ◌+◌, ◌*◌, ◌<◌, ◌≤◌, ◌≡◌, Bool, not, List, ◌++◌, set, take, drop, Some, None}
-use Rattle.std.proofs.Common.{sym, ◌∙◌, append_assoc, arith, add-one, length-set, drop-drop, eq-eqb}
+use Rattle.std.proofs.Common.{sym, ◌∙◌, append_assoc, arith, add-one, length-set, drop-drop}
 use Rattle.std.proofs.Math.Bool.{So}
 use Rattle.std.proofs.lemmas.List.Edits.{sets-eq}
 use Rattle.std.proofs.Math.ListN.{length}
@@ -26,7 +26,7 @@ module _ (ws : List ℕ) (k : ℕ) (c : Cell) where
   many = length-set (cells_of ws) k c ∙ length-cells_of ws
 
   -- they are as many as they were, and so are the records
-  length-stored : length (stored ws k c) ≡ length ws
+  pub length-stored : length (stored ws k c) ≡ length ws
   length-stored = length_with ws (set (cells_of ws) k c) many
 
   pub records-stored : records (stored ws k c) ≡ records ws
@@ -45,11 +45,6 @@ pub spliced : (ws xs : List ℕ) (k n : ℕ) (c : Cell) → k < records ws → x
 spliced ws xs k n c h e q =
     let inside : k * width + width ≤ length ws = omega (arith, in_words ws {n = k + 1} (omega arith)) in
     rw (e, q, drop-drop) (sym (store-parts ws k c inside) ∙ store_with ws k h c)
-
--- whether a record read is live, by its place
-pub not_live : {c d : Cell} → c ≡ d → c.place ≡ 0 → No (is_live d)
-unfolding is_live is_free
-not_live e h = rw (← e, eq-eqb _ _ h)
 
 -- the numbers below `from` are records, and none is free
 pub record NoneBelow (ws : List ℕ) (from : ℕ) : Type 0 where
