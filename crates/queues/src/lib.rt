@@ -27,7 +27,7 @@ pub struct PairQueues {
     wanted: PortSet,
 }
 
-// The word that names a record.
+// The word that names what was found.
 fn name_of(found: Option<usize>) -> u16
     requires { Below most_records found }
     ensures { result ≡ name_of found }
@@ -112,14 +112,13 @@ impl PairQueues {
         ensures { self.new ≡ head_set self.old i.0 o.0 found }
     {
         self.heads[pair_of(i, o)] = name_of(found);
-        let at = o.0 as usize;
-        let inputs = self.senders[at];
-        if found.is_none() {
-            self.senders[at] = inputs.except(PortSet::of(i.0));
-            return;
+        let inputs = &mut self.senders[o.0 as usize];
+        if found.is_some() {
+            *inputs = inputs.with(i.0);
+            self.wanted = self.wanted.with(o.0);
+        } else {
+            *inputs = inputs.except(PortSet::of(i.0));
         }
-        self.senders[at] = inputs.with(i.0);
-        self.wanted = self.wanted.with(o.0);
     }
 
     // Record k becomes the top of the chain of pair p.
@@ -133,7 +132,7 @@ impl PairQueues {
         self.tops[p] = name_of(Some(k));
     }
 
-    // The oldest waiting cell of a pair, looked for along its chain.
+    // The oldest waiting cell of a pair, looked for along its chain, which ends: each link leads to a lower record.
     fn look(&self, table: &[u32], i: Input, o: Output) -> Option<usize>
         requires { Stale table.now self.now i o }
         ensures { result ≡ head_of (cells_of table.now) i.0 o.0 }
