@@ -43,7 +43,7 @@ fn named(word: u16) -> Option<usize>
     ensures { result ≡ named word }
 {
     let k = word.checked_sub(1)?;
-    Some(k as usize)
+    Some(usize::from(k))
 }
 
 // Where the words of a pair stand.
@@ -51,7 +51,7 @@ fn pair_of(i: Input, o: Output) -> usize
     requires { Ports i o }
     ensures { result ≡ pair i.0 o.0 }
 {
-    (i.0 as usize) * PORT_COUNT + (o.0 as usize)
+    usize::from(i) * PORT_COUNT + usize::from(o)
 }
 
 impl PairQueues {
@@ -94,7 +94,7 @@ impl PairQueues {
         requires { o.0 < most_ports }
         ensures { result.mask ≡ senders self.now o.0 }
     {
-        self.senders[o.0 as usize]
+        self.senders[usize::from(o)]
     }
 
     // Every output that a cell waits for, and maybe others.
@@ -112,7 +112,7 @@ impl PairQueues {
         ensures { self.new ≡ head_set self.old i.0 o.0 found }
     {
         self.heads[pair_of(i, o)] = name_of(found);
-        let inputs = &mut self.senders[o.0 as usize];
+        let inputs = &mut self.senders[usize::from(o)];
         if found.is_some() {
             *inputs = inputs.with(i.0);
             self.wanted = self.wanted.with(o.0);
