@@ -133,6 +133,7 @@ impl PairQueues {
     }
 
     // The oldest waiting cell of a pair, looked for along its chain, which ends: each link leads to a lower record.
+    #[tactic(auto, using(crate::specs::Chains::down_inside))]
     fn look(&self, table: &[u32], i: Input, o: Output) -> Option<usize>
         requires { Stale table.now self.now i o }
         ensures { result ≡ head_of (cells_of table.now) i.0 o.0 }
