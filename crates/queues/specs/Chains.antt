@@ -23,7 +23,7 @@ use Rattle.ideal.specs.Cells.{waiting→, older_ranks}
 use Rattle.words.specs.Words.{length-cells_of}
 use Rattle.table.specs.Table.{older_at}
 use Rattle.queues.specs.declared.PairQueues.{PairQueues}
-use Rattle.queues.specs.Layout.{pairs, Long, pair, pair_of, top_word, next_word, no_queues}
+use Rattle.queues.specs.Layout.{pairs, Long, pair, pair_of, top_word, next_word, no_queues, named, word_some, word_none}
 use Rattle.queues.specs.Queues.{waits_for, waits→, →waits, head_below, head_of, Link, Chains, But, Queues, waiting_at, class_of, linked, Stale}
 
 -- a record of another pair is no member
@@ -228,11 +228,6 @@ module _ {table : List ℕ} {qs : PairQueues} {input : Input} {output : Output} 
             (passes (ltb j k)))
             (passes (eqb j k))
 
-  -- the record that the word names has a place in the table, and in the queues
-  pub looked_inside : (v k : ℕ) (found : Option ℕ) → v ≡ suc k → Looked stale.queues.cl table input.0 output.0 v found
-      → (k < records table) × (k < most_records)
-  looked_inside v k found e s = (omega (arith, s.within), omega (arith, s.within, stale.few))
-
   -- the same, in the words of the code
   pub looked_on : (v k : ℕ) (found : Option ℕ) → v ≡ suc k → Looked stale.queues.cl table input.0 output.0 v found
       → let next : Option ℕ = first_found (older_at (cells_of table)) found (waiting_at (cells_of table) k) in
@@ -245,3 +240,29 @@ module _ {table : List ℕ} {qs : PairQueues} {input : Input} {output : Output} 
   looked_all v found z s =
       first-least (older_at cs) (ranks_on older older_ranks (nth cs)) (λ j. waits_for i o (nth cs j)) (length cs) found
       (first_alike _ _ _ _ (length cs) (λ j l. rw (le-ltb j v (omega arith))) (λ j k a b x y. refl) found s.first)
+
+-- The same of a chain whose pair's head is not known, in the words of the code: `word` names the record that comes next.
+pub record Down (table : List ℕ) (qs : PairQueues) (i : Input) (o : Output) (word : ℕ) (found : Option ℕ) : Type 0 where
+  pub stale : Stale table qs i o
+  pub looked : Looked stale.queues.cl table i.0 o.0 word found
+
+module _ {table : List ℕ} {qs : PairQueues} {i : Input} {o : Output} where
+  pub down_top : {v : ℕ} → Stale table qs i o → v ≡ top_word qs (pair i.0 o.0) → Down table qs i o v None
+  down_top s e = record { stale = s; looked = looked_top s e }
+
+  module _ {v : ℕ} {found : Option ℕ} (d : Down table qs i o v found) where
+    pub down_below : Below (records table) found
+    down_below = looked_below d.looked
+
+    pub down_inside : {k : ℕ} → named v ≡ Some k → (k < records table) × (k < most_records)
+    down_inside {k} e = let w = word_some v k e in (omega (arith, d.looked.within, w), omega (arith, d.looked.within, d.stale.few, w))
+
+    pub down_less : {k : ℕ} → named v ≡ Some k → next_word qs k < v
+    down_less {k} e = (looked_on d.stale v k found (word_some v k e) d.looked).0
+
+    pub down_on : {k : ℕ} → named v ≡ Some k
+        → Down table qs i o (next_word qs k) (first_found (older_at (cells_of table)) found (waiting_at (cells_of table) k))
+    down_on {k} e = record { stale = d.stale; looked = (looked_on d.stale v k found (word_some v k e) d.looked).1 }
+
+    pub down_all : named v ≡ None → found ≡ head_of (cells_of table) i.0 o.0
+    down_all e = looked_all d.stale v found (word_none v e) d.looked

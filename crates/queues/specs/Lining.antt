@@ -4,7 +4,7 @@
 use Prim.Native.Nat.{ℕ, zero, suc, ◌+◌, ◌<◌, ◌≤◌}
 use Rattle.std.specs.Prelude.{◌≡◌, Bool, eqb, length, Option, Some, None}
 use Rattle.std.proofs.Math.Path.{refl, sym, ap, ap₂}
-use Rattle.std.proofs.Common.{◌∙◌, ⊎_elim, subst, arith}
+use Rattle.std.proofs.Common.{◌∙◌, ⊎_elim, arith}
 use Rattle.std.proofs.Math.Bool.{So}
 use Rattle.std.proofs.lemmas.Bool.{false≢true}
 use mathlib.Core.List.{List}
@@ -39,7 +39,7 @@ use Rattle.queues.specs.Heads.{head_below_lem, HeadSet, head_set_lem}
 -- A record read ----------------------------------------------------------------------------------
 
 module _ (cs : List Cell) (k : ℕ) where
-  not-waiting : ((nth cs k).place ≡ 1 → ⊥) → No (is_waiting (nth cs k))
+  pub not-waiting : ((nth cs k).place ≡ 1 → ⊥) → No (is_waiting (nth cs k))
   unfolding is_waiting
   not-waiting h = ne_eqb _ _ h
 
@@ -192,9 +192,6 @@ module _ {table : List ℕ} {k : ℕ} {qs : PairQueues} (j : Joinable table k qs
     are_chained : us ≡ chained cs k qs
     are_chained = link ∙ ap (λ (v : ℕ). linked qs v k) (at ∙ ap pair_of read)
 
-    pub long_then : Long us
-    long_then = subst Long (sym are_chained) joins_long
-
     module _ {x : Option ℕ} (head : x ≡ named (head_word us c.input.0 c.output.0)) where
       is_old : x ≡ old_head cs k ms
       is_old = head ∙ ap (λ (d : Cell). named (head_word us d.input.0 d.output.0)) read ∙ ap (old_head cs k) are_chained
@@ -263,7 +260,7 @@ module _ {table : List ℕ} (f : Lineable table) where
 -- From one waiting cell to the next --------------------------------------------------------------
 
 -- a record that lacks the bit of waiting cells changes nothing
-lined_keeps : (table : List ℕ) {qs : PairQueues} (x : ℕ) → x < records table → bit_and (nth (cells_of table) x).place waiting_bit ≡ 0
+pub lined_keeps : (table : List ℕ) {qs : PairQueues} (x : ℕ) → x < records table → bit_and (nth (cells_of table) x).place waiting_bit ≡ 0
     → qs ≡ lined_to (cells_of table) x → qs ≡ lined_to (cells_of table) (x + 1)
 lined_keeps table x l h y =
     let cs = cells_of table in

@@ -1,4 +1,4 @@
--- The waiting cells by pair of input and output: what the words of the list say of a table, how they come to say it, and what the calls ask for.
+-- The waiting cells by pair of input and output: what their words say of a table, how they come to say it, and what the calls ask for.
 -- Assumes nothing.
 use Rattle.std.specs.Prelude.{ℕ, suc, ◌<◌, ◌≤◌, ◌≡◌, Bool, cond, ◌&&◌, List, eqb, length, set, Option, Some, None}
 use Rattle.std.proofs.Math.Bool.{So}

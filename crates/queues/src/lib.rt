@@ -27,7 +27,7 @@ pub struct PairQueues {
     wanted: PortSet,
 }
 
-// The word that names a record.
+// The word that names what was found.
 fn name_of(found: Option<usize>) -> u16
     requires { Below most_records found }
     ensures { result ≡ name_of found }
@@ -43,7 +43,7 @@ fn named(word: u16) -> Option<usize>
     ensures { result ≡ named word }
 {
     let k = word.checked_sub(1)?;
-    Some(k as usize)
+    Some(usize::from(k))
 }
 
 // Where the words of a pair stand.
@@ -51,7 +51,7 @@ fn pair_of(i: Input, o: Output) -> usize
     requires { Ports i o }
     ensures { result ≡ pair i.0 o.0 }
 {
-    (i.0 as usize) * PORT_COUNT + (o.0 as usize)
+    usize::from(i) * PORT_COUNT + usize::from(o)
 }
 
 impl PairQueues {
@@ -94,7 +94,7 @@ impl PairQueues {
         requires { o.0 < most_ports }
         ensures { result.mask ≡ senders self.now o.0 }
     {
-        self.senders[o.0 as usize]
+        self.senders[usize::from(o)]
     }
 
     // Every output that a cell waits for, and maybe others.
@@ -112,14 +112,13 @@ impl PairQueues {
         ensures { self.new ≡ head_set self.old i.0 o.0 found }
     {
         self.heads[pair_of(i, o)] = name_of(found);
-        let at = o.0 as usize;
-        let inputs = self.senders[at];
-        if found.is_none() {
-            self.senders[at] = inputs.except(PortSet::of(i.0));
-            return;
+        let inputs = &mut self.senders[usize::from(o)];
+        if found.is_some() {
+            *inputs = inputs.with(i.0);
+            self.wanted = self.wanted.with(o.0);
+        } else {
+            *inputs = inputs.except(PortSet::of(i.0));
         }
-        self.senders[at] = inputs.with(i.0);
-        self.wanted = self.wanted.with(o.0);
     }
 
     // Record k becomes the top of the chain of pair p.
@@ -133,7 +132,8 @@ impl PairQueues {
         self.tops[p] = name_of(Some(k));
     }
 
-    // The oldest waiting cell of a pair, looked for along its chain.
+    // The oldest waiting cell of a pair, looked for along its chain, which ends: each link leads to a lower record.
+    #[tactic(auto, using(crate::specs::Chains::down_inside))]
     fn look(&self, table: &[u32], i: Input, o: Output) -> Option<usize>
         requires { Stale table.now self.now i o }
         ensures { result ≡ head_of (cells_of table.now) i.0 o.0 }

@@ -1,10 +1,9 @@
 -- Down the chain: what was found is the oldest of the pair's cells from the record that the word names up.
-use Rattle.queues.specs.Queues.{Stale}
-use Rattle.queues.specs.Chains.{Looked}
+use Rattle.queues.specs.Chains.{Down}
 use Rattle.queues.proofs.PairQueues.look.Given as goal
 
 abbrev pub invariant-loop-k : goal.invariant-loop-k
-invariant-loop-k l = (s : Stale l.table l.self l.fn.i l.fn.o) → Looked s.queues.cl l.table l.fn.i.0 l.fn.o.0 l.word l.found
+invariant-loop-k l = Down l.table l.self l.fn.i l.fn.o l.word l.found
 
 abbrev pub decreases-loop-k : goal.decreases-loop-k
 decreases-loop-k l = l.word
