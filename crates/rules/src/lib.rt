@@ -42,6 +42,23 @@ pub struct Output(pub u32);
 #[derive(Clone, Copy, Debug, Default, PartialEq, Eq, PartialOrd, Ord)]
 pub struct Slot(pub u32);
 
+// The place of a port in a list that has one for each.
+impl From<Input> for usize {
+    ghost from_gives = { λ i k. k ≡ i.0 };
+
+    fn from(i: Input) -> usize {
+        i.0 as usize
+    }
+}
+
+impl From<Output> for usize {
+    ghost from_gives = { λ o k. k ≡ o.0 };
+
+    fn from(o: Output) -> usize {
+        o.0 as usize
+    }
+}
+
 // A record of the cell table. The default one is free, all zeros.
 #[derive(Clone, Copy, Debug, Default, PartialEq, Eq)]
 pub struct Cell {
