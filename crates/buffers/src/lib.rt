@@ -15,6 +15,7 @@ use rules::{ARRIVAL_WORDS, Cell, EXHALED_WORDS, Input, Output, Slot, WAITING};
 
 // The cell that arrives at input i, if one does, takes the lowest-numbered free record: one from `from` on, none below being free.
 // Gives a record from which the next one may look. Without room the table stays; such a slot is refused before.
+#[tactic(auto, using(crate::specs::Inhale::room_inside), unfolding(rules::specs::Cells::records))]
 fn enter(table: &mut [u32], arrivals: &[u32], i: Input, t: Slot, from: usize) -> usize
     requires none_below { NoneBelow table.old from }
     requires arrival_in_bounds { i.0 * arrival_width + arrival_width ≤ length arrivals.now }
