@@ -11,46 +11,43 @@ ghost use Rattle.table.specs.Table.{NoneBelow};
 ghost use Rattle.buffers.specs.Inhale.{Entered};
 ghost use Rattle.buffers.specs.Exhale.{entry_of, Emitted};
 
-use rules::{Cell, Input, Output, Slot};
+use rules::{ARRIVAL_WORDS, Cell, EXHALED_WORDS, Input, Output, Slot, WAITING};
 
 // The cell that arrives at input i, if one does, takes the lowest-numbered free record: one from `from` on, none below being free.
 // Gives a record from which the next one may look. Without room the table stays; such a slot is refused before.
+#[tactic(auto, using(crate::specs::Inhale::room_inside), unfolding(rules::specs::Cells::records))]
 fn enter(table: &mut [u32], arrivals: &[u32], i: Input, t: Slot, from: usize) -> usize
     requires none_below { NoneBelow table.old from }
     requires arrival_in_bounds { i.0 * arrival_width + arrival_width ≤ length arrivals.now }
     ensures { Entered t arrivals.now i table.old table.new result }
 {
-    let at = (i.0 as usize) * rules::ARRIVAL_WORDS;
-    let word = arrivals[at];
-    if word == 0 {
+    let at = i.0 as usize * ARRIVAL_WORDS;
+    let Some(output) = arrivals[at].checked_sub(1) else {
         return from;
-    }
+    };
     let Some(k) = table::next_free(table, from) else {
         return from;
     };
-    let output = word - 1;
-    let tag = arrivals[at + 1];
     let c = Cell {
-        place: 1,
+        place: WAITING,
         input: i,
         output: Output(output),
         entered: t,
-        tag: tag,
+        tag: arrivals[at + 1],
     };
     table::put_cell(table, k, c);
     k + 1
 }
 
 // By rising input each arriving cell takes the lowest-numbered free record. The table is passed once.
+#[tactic(auto, using(crate::specs::Inhale::inhaling_none))]
 pub fn inhale(table: &mut [u32], arrivals: &[u32], ports: u32, t: Slot)
     requires { ports * arrival_width ≤ length arrivals.now }
     ensures { table.new ≡ changed (inhale ports t arrivals.now) table.old }
 {
     let mut from = 0;
-    let mut i = 0;
-    while i < ports {
+    for i in 0..ports {
         from = enter(table, arrivals, Input(i), t, from);
-        i += 1;
     }
 }
 
@@ -59,20 +56,18 @@ fn put_entry(list: &mut [u32], at: usize, mark: u32, c: Cell)
     requires { at + exhaled_width ≤ length list.old }
     ensures { list.new ≡ sets list.old at (entry_of mark c) }
 {
-    list[at] = mark;
-    list[at + 1] = c.input.0;
-    list[at + 2] = c.entered.0;
-    list[at + 3] = c.tag;
+    list[at..at + EXHALED_WORDS].copy_from_slice(&[mark, c.input.0, c.entered.0, c.tag]);
 }
 
 // Output o emits its oldest ready cell, whose record becomes free; or nothing, where its unit holds no cell.
+#[tactic(auto, using(crate::specs::Exhale::found_inside, crate::specs::Exhale::emits_record))]
 fn emit(table: &mut [u32], list: &mut [u32], o: Output)
     requires { o.0 * exhaled_width + exhaled_width ≤ length list.old }
     ensures { Emitted o table.old list.old table.new list.new }
 {
-    let at = (o.0 as usize) * rules::EXHALED_WORDS;
+    let at = o.0 as usize * EXHALED_WORDS;
     let Some(k) = table::oldest_ready(table, o) else {
-        put_entry(list, at, 0, table::free_cell());
+        put_entry(list, at, 0, Cell::default());
         return;
     };
     put_entry(list, at, 1, table::cell_at(table, k));
@@ -85,9 +80,7 @@ pub fn exhale(table: &mut [u32], list: &mut [u32], ports: u32)
     ensures table_after { table.new ≡ changed (exhale ports) table.old }
     ensures list_after { list.new ≡ exhaled ports (cells_of table.old) }
 {
-    let mut o = 0;
-    while o < ports {
+    for o in 0..ports {
         emit(table, list, Output(o));
-        o += 1;
     }
 }

@@ -2,37 +2,37 @@
 // Each contract is one equation with `specs/Exports.antt`, which settles the number given back and every word of every list.
 #![tactic(auto)]
 
-ghost use Rattle.std.specs.Prelude.{◌≡◌, length};
+ghost use Rattle.std.specs.Prelude.{◌≡◌, ◌≢◌, length, IfNone, IfSome};
 ghost use Rattle.rules.specs.Answers.{lists};
 ghost use Rattle.exports.specs.Exports.{number_width, switch_of, numbers_of, start_of_words, slot_of_words};
 
 use rules::{Slot, Switch};
 use switch::Crossbar;
 
-// The words of the switch's numbers: `number_width` of specs/Exports.antt.
-const NUMBER_WORDS: usize = 3;
-
 // What is given back for a list of numbers of another length; the switch gives no such number.
 const NO_NUMBERS: u32 = 255;
 
-fn read_numbers(numbers: &[u32]) -> Switch
-    requires { length numbers.now ≡ number_width }
-    ensures { result ≡ switch_of numbers.now }
+// The switch with the numbers of three words, if they are three.
+fn read_numbers(numbers: &[u32]) -> Option<Crossbar>
+    ensures missing { IfNone result (length numbers.now ≢ number_width) }
+    ensures found { IfSome result (λ c. (length numbers.now ≡ number_width) × (c.numbers ≡ switch_of numbers.now)) }
 {
-    Switch {
-        ports: numbers[0],
-        speedup: numbers[1],
-        next: Slot(numbers[2]),
-    }
+    let [ports, speedup, next] = *numbers else {
+        return None;
+    };
+    let numbers = Switch {
+        ports,
+        speedup,
+        next: Slot(next),
+    };
+    Some(Crossbar { numbers })
 }
 
 fn write_numbers(numbers: &mut [u32], w: Switch)
     requires { length numbers.old ≡ number_width }
     ensures { numbers.new ≡ numbers_of w }
 {
-    numbers[0] = w.ports;
-    numbers[1] = w.speedup;
-    numbers[2] = w.next.0;
+    numbers.copy_from_slice(&[w.ports, w.speedup, w.next.0]);
 }
 
 // A fresh start: 0, or 1, 2 or 3, and 255 for a list of numbers that has not three words. Not done, it changes nothing.
@@ -42,16 +42,12 @@ pub extern "C" fn treikwater_fresh_start(numbers: &mut [u32], table: &mut [u32])
     ensures { record { number = result; numbers = numbers.new; table = table.new }
         ≡ start_of_words numbers.old table.old }
 {
-    if numbers.len() != NUMBER_WORDS {
+    let Some(mut crossbar) = read_numbers(numbers) else {
         return NO_NUMBERS;
-    }
-    let before = Crossbar {
-        numbers: read_numbers(numbers),
     };
-    let outcome = before.fresh_start(table);
-    write_numbers(numbers, outcome.crossbar.numbers);
-    let answer = outcome.answer;
-    answer.number()
+    let answer = crossbar.fresh_start(table);
+    write_numbers(numbers, crossbar.numbers);
+    rules::number_of(answer)
 }
 
 // One slot: 0, or a number from 1 to 8, and 255 as above. Not done, it changes nothing.
@@ -73,14 +69,10 @@ pub extern "C" fn treikwater_slot(
     }
         ≡ slot_of_words numbers.old table.old (lists arrivals.now matches.old exhaled.old) }
 {
-    if numbers.len() != NUMBER_WORDS {
+    let Some(mut crossbar) = read_numbers(numbers) else {
         return NO_NUMBERS;
-    }
-    let before = Crossbar {
-        numbers: read_numbers(numbers),
     };
-    let outcome = before.slot(table, arrivals, matches, exhaled);
-    write_numbers(numbers, outcome.crossbar.numbers);
-    let answer = outcome.answer;
-    answer.number()
+    let answer = crossbar.slot(table, arrivals, matches, exhaled);
+    write_numbers(numbers, crossbar.numbers);
+    rules::number_of(answer)
 }

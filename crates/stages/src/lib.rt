@@ -47,8 +47,7 @@ pub extern "C" fn treikwater_stage_reading(table: &[u32], output: u32) -> u32
     ensures { result ≡ get_or (readings (cells_of table.now)) output 0 }
 {
     let r = table::read(table);
-    let at = output as usize;
-    r.counts[at]
+    r.counts[output as usize]
 }
 
 // The reading and the phases.

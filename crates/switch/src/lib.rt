@@ -4,7 +4,7 @@
 ghost use Rattle.std.specs.Prelude.{◌≡◌};
 ghost use Rattle.rules.specs.Cells.{cells_of};
 ghost use Rattle.rules.specs.Answers.{lists, live};
-ghost use Rattle.rules.specs.Calls.{fresh_start, slot, slot_runs};
+ghost use Rattle.rules.specs.Calls.{raised, fresh_start, slot, slot_runs};
 ghost use Rattle.ideal.specs.Calls.{Accepted};
 ghost use Rattle.switch.specs.Calls.{SlotRan};
 
@@ -18,7 +18,7 @@ pub struct Crossbar {
 
 impl Crossbar {
     // Starts afresh with the numbers' N and S: next slot 0, every record free. Refused with 1, 2 or 3, and then nothing changes.
-    #[tactic(auto, using(crate::proofs::Outcomes::start_stays, crate::proofs::Outcomes::start_goes))]
+    #[tactic(auto, unfolding(rules::specs::Calls::fresh_start, rules::specs::Answers::is_done))]
     pub fn fresh_start(&mut self, table: &mut [u32]) -> Result<(), Refusal>
         ensures { record { answer = result; numbers = self.new.numbers; table = table.new }
             ≡ fresh_start self.old.numbers table.old }
@@ -30,7 +30,7 @@ impl Crossbar {
     }
 
     // Runs one slot: inhale, transfer phases, exhale. Refused with a number from 1 to 8, and then nothing changes.
-    #[tactic(auto, using(crate::proofs::Outcomes::slot_stays, crate::proofs::Outcomes::clock_goes, crate::proofs::Outcomes::slot_goes))]
+    #[tactic(auto, using(crate::proofs::Outcomes::is_accepted), unfolding(rules::specs::Calls::slot, rules::specs::Calls::slot_runs, rules::specs::Answers::is_done))]
     pub fn slot(
         &mut self,
         table: &mut [u32],
@@ -48,8 +48,7 @@ impl Crossbar {
             ≡ slot self.old.numbers table.old (lists arrivals.now matches.old exhaled.old) }
     {
         checks::check_slot(self.numbers, table, arrivals, matches, exhaled)?;
-        run(self.numbers, table, arrivals, matches, exhaled);
-        self.numbers = self.numbers.raised();
+        self.numbers = run(self.numbers, table, arrivals, matches, exhaled);
         Ok(())
     }
 }
@@ -61,13 +60,21 @@ pub fn held(table: &[u32]) -> usize
     table::live(table)
 }
 
-// An accepted slot.
-fn run(w: Switch, table: &mut [u32], arrivals: &[u32], matches: &mut [u32], exhaled: &mut [u32])
+// An accepted slot; gives the numbers for the next one.
+fn run(
+    w: Switch,
+    table: &mut [u32],
+    arrivals: &[u32],
+    matches: &mut [u32],
+    exhaled: &mut [u32],
+) -> Switch
     requires { Accepted w table.old (lists arrivals.now matches.old exhaled.old) }
-    ensures { SlotRan w table.old arrivals.now table.new matches.new exhaled.new }
+    ensures lists { SlotRan w table.old arrivals.now table.new matches.new exhaled.new }
+    ensures numbers { result ≡ raised w }
 {
     buffers::inhale(table, arrivals, w.ports, w.next);
     let r = table::read(table);
     matching::transfers(table, matches, r, w.ports, w.speedup);
     buffers::exhale(table, exhaled, w.ports);
+    w.raised()
 }

@@ -1,26 +1,20 @@
 -- No cell arrives, there is no room, or the cell takes the record found.
 use Rattle.std.proofs.Common.{sym, arith}
 use Rattle.std.proofs.Math.Numerals.{sub-one}
-use Rattle.rules.specs.Cells.{records}
 use Rattle.rules.specs.Answers.{first_word, tag_word}
-use Rattle.buffers.specs.Inhale.{none-arrives, no_room, room_inside, takes_room}
+use Rattle.buffers.specs.Inhale.{none-arrives, no_room, takes_room}
 use Rattle.buffers.proofs.enter.Goals as goal
-
-pub returns-then-word-eq0 : goal.returns-then-word-eq0
-unfolding first_word
-returns-then-word-eq0 c = none-arrives _ _ _ _ c.requires.none_below c.if-word-eq0.true
 
 pub returns-in_default : goal.returns-in_default
 unfolding first_word
-returns-in_default c = no_room _ _ _ _ c.requires.none_below c.if-word-eq0.false (sym c.in_default.ensures)
+returns-in_default c = none-arrives _ _ _ _ c.requires.none_below (omega (arith, c.in_default.ensures))
 
-pub put_cell-requires : goal.put_cell-requires
-put_cell-requires c = room_inside _ _ (sym c.in-Some.ensures)
-
-pub overflow_add-result : goal.overflow_add-result
-unfolding records
-overflow_add-result c = omega (arith, room_inside _ _ (sym c.in-Some.ensures))
+pub returns-in_default-next_free : goal.returns-in_default-next_free
+unfolding first_word
+returns-in_default-next_free c = no_room _ _ _ _ c.requires.none_below (λ z. omega (arith, c.in-Some.ensures)) (sym c.in_default-next_free.ensures)
 
 pub returns : goal.returns
 unfolding first_word tag_word
-returns c = takes_room _ _ _ _ _ (sym c.in-Some.ensures) _ c.if-word-eq0.false (rw sub-one at c.put_cell.ensures)
+returns c =
+    takes_room _ _ _ _ _ (sym c.in-Some-next_free.ensures) _ (λ z. omega (arith, c.in-Some.ensures))
+    (rw (c.in-Some.ensures.1, sub-one) at c.put_cell.ensures)

@@ -4,7 +4,7 @@ use Rattle.buffers.specs.Exhale.{exhaling_none, exhaling_more}
 use Rattle.buffers.proofs.exhale.Goals as goal
 
 pub loop-o-init : goal.loop-o-init
-loop-o-init c = record { below_ports = omega arith; exhaling = exhaling_none _ _ }
+loop-o-init c = exhaling_none _ _
 
 pub loop-o-preserved : goal.loop-o-preserved
-loop-o-preserved c = record { below_ports = omega arith; exhaling = exhaling_more (omega arith) c.loop-o.invariant.exhaling c.emit.ensures }
+loop-o-preserved c = exhaling_more (omega arith) c.loop-o.invariant c.emit.ensures
