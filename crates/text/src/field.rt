@@ -70,7 +70,7 @@ fn tag_end(word: u32, number: Number) -> Option<Arrival>
 }
 
 // A field that has no byte yet stays so.
-#[tactic(auto, using(crate::specs::Parts::taken_none, crate::specs::Parts::start_output))]
+#[tactic(auto, using(crate::specs::Parts::taken_none))]
 fn read_start(piece: &mut Piece<'_>) -> Field
     ensures taken { FieldTaken piece.old.bytes.now Start piece.old.next result piece.new.next }
     ensures same_bytes { piece.new.bytes.now ≡ piece.old.bytes.now }

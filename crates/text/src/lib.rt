@@ -133,7 +133,6 @@ impl SlotReader {
     }
 
     // The field's end. What cannot be read, or has no room, breaks the line.
-    #[tactic(auto, using(std::proofs::lemmas::Bool::Decides::nat_tests), unfolding(crate::specs::Steps::end_field, crate::specs::Steps::written))]
     fn end_field(self, words: &mut [u32]) -> SlotReader
         ensures { line_state_of result words.new ≡ end_field (line_state_of self words.old) }
     {
