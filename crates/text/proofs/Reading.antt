@@ -3,7 +3,7 @@ use Rattle.std.specs.Prelude.{ℕ, ◌≡◌, refl}
 use Rattle.std.proofs.Common.{◌∙◌}
 use mathlib.Core.List.{List, [], ◌∷◌}
 use Rattle.laws.specs.Folds.{fold}
-use Rattle.text.specs.declared.Number.TheVariants.{Empty}
+use Rattle.text.specs.declared.number.Number.TheVariants.{Empty}
 use Rattle.text.specs.Lines.{line_fields, three, first_line}
 use Rattle.text.specs.Steps.{first_start, first_step, first_answer}
 use Rattle.text.specs.Reading.{after, first_steps, too_many, three_is}

@@ -1,8 +1,8 @@
 -- What an arm that stands for several variants knows: its value is none of the others.
 -- Assumes nothing.
 use Rattle.std.specs.Prelude.{ℕ, ◌≡◌, refl, false}
-use Rattle.text.specs.declared.Number.{Number}
-use Rattle.text.specs.declared.Number.TheVariants.{Empty, Value, NoNumber}
+use Rattle.text.specs.declared.number.Number.{Number}
+use Rattle.text.specs.declared.number.Number.TheVariants.{Empty, Value, NoNumber}
 use Rattle.text.specs.Steps.{is_value}
 
 pub no_value : (n : Number) → ((v : ℕ) → n ≡ Value v → ⊥) → is_value n ≡ false

@@ -1,21 +1,19 @@
 -- Lines of document 01, "The program", and lines at the edges of what can be read, by computing the definitions.
 -- Assumes nothing.
-use Rattle.std.specs.Prelude.{ℕ, ◌≡◌, refl, Bool, true, false}
+use Rattle.std.specs.Prelude.{ℕ, ◌≡◌, refl, Bool, true, false, Option, None}
 use Prim.Native.String.{String}
 use mathlib.Core.List.{[], ◌∷◌, flat_map}
 use Rattle.laws.specs.Folds.{fold, each}
 use Rattle.laws.specs.Texts.{bytes}
 use Rattle.text.specs.declared.FirstLine.{FirstLine}
-use Rattle.text.specs.declared.FirstLine.TheVariants.{Numbers, Unreadable}
-use Rattle.text.specs.declared.Arrival.{Arrival}
-use Rattle.text.specs.declared.Arrival.TheVariants.{Words, NoArrival}
+use Rattle.text.specs.declared.field.Arrival.{Arrival}
 use Rattle.characters.specs.Characters.{is_digit, push, value}
-use Rattle.text.specs.Lines.{cut, is_number, first_line, is_output, field_arrival, is_slot_line, slot_line_words}
+use Rattle.text.specs.Lines.{cut, is_number, numbers, unreadable, first_line, is_output, arrival, field_arrival, is_slot_line, slot_line_words}
 
-unfoldable pub first_line_of : String → FirstLine
+unfoldable pub first_line_of : String → Option FirstLine
 first_line_of s = first_line (bytes s)
 
-unfoldable pub field_of : String → Arrival
+unfoldable pub field_of : String → Option Arrival
 field_of s = field_arrival (bytes s)
 
 unfoldable pub reads : ℕ → String → Bool
@@ -28,23 +26,23 @@ Lining = Unit {0}
 
 pub record LineExamples : Type 0 where
   -- the example of document 01
-  pub sizes : first_line_of "2 3 4" ≡ Numbers 2 3 4
+  pub sizes : first_line_of "2 3 4" ≡ numbers 2 3 4
   pub both_send : (reads 2 "0:10 0:11" ≡ true) × (slot_line_words (bytes "0:10 0:11") ≡ 1 ∷ 10 ∷ 1 ∷ 11 ∷ [])
   pub one_sends_lem : (reads 2 "1:12 -" ≡ true) × (slot_line_words (bytes "1:12 -") ≡ 2 ∷ 12 ∷ 0 ∷ 0 ∷ [])
   pub none_send : (reads 2 "- -" ≡ true) × (slot_line_words (bytes "- -") ≡ 0 ∷ 0 ∷ 0 ∷ 0 ∷ [])
   -- the largest numbers, and leading zeros
-  pub outputs : (field_of "4294967294:0" ≡ Words 4294967295 0) × (field_of "4294967295:0" ≡ NoArrival)
-  pub tags : (field_of "0:4294967295" ≡ Words 1 4294967295) × (field_of "0:4294967296" ≡ NoArrival)
-  pub sizes_edge : (first_line_of "4294967295 0 00000000000004294967295" ≡ Numbers 4294967295 0 4294967295) × (first_line_of "4294967296 0 0" ≡ Unreadable)
-  pub long : field_of "00000000000000:00000000000007" ≡ Words 1 7
+  pub outputs : (field_of "4294967294:0" ≡ arrival 4294967295 0) × (field_of "4294967295:0" ≡ None)
+  pub tags : (field_of "0:4294967295" ≡ arrival 1 4294967295) × (field_of "0:4294967296" ≡ None)
+  pub sizes_edge : (first_line_of "4294967295 0 00000000000004294967295" ≡ numbers 4294967295 0 4294967295) × (first_line_of "4294967296 0 0" ≡ unreadable)
+  pub long : field_of "00000000000000:00000000000007" ≡ arrival 1 7
   -- another number of fields, or a field of another form
-  pub spaces : (reads 2 "- - " ≡ false) × (reads 2 " - -" ≡ false) × (reads 2 "-  -" ≡ false) × (reads 3 "-  -" ≡ false) × (first_line_of "2 3 4 " ≡ Unreadable)
-  pub counts : (reads 2 "-" ≡ false) × (reads 2 "- - -" ≡ false) × (first_line_of "2 3" ≡ Unreadable) × (first_line_of "2 3 4 5" ≡ Unreadable)
-  pub blank : (reads 1 "" ≡ false) × (first_line_of "" ≡ Unreadable)
-  pub forms : (field_of "1:2:3" ≡ NoArrival) × (field_of "--" ≡ NoArrival) × (field_of "-1:2" ≡ NoArrival) × (field_of "1" ≡ NoArrival)
-  pub empties : (field_of ":2" ≡ NoArrival) × (field_of "1:" ≡ NoArrival) × (field_of ":" ≡ NoArrival)
-  pub strangers : (field_of "+1:2" ≡ NoArrival) × (field_of "0x1:2" ≡ NoArrival) × (field_arrival (49 ∷ 58 ∷ 178 ∷ []) ≡ NoArrival)
-  pub controls : (first_line_of "2 3 4\r" ≡ Unreadable) × (first_line_of "2\t3 4" ≡ Unreadable) × (first_line_of "2 3 4\0" ≡ Unreadable)
+  pub spaces : (reads 2 "- - " ≡ false) × (reads 2 " - -" ≡ false) × (reads 2 "-  -" ≡ false) × (reads 3 "-  -" ≡ false) × (first_line_of "2 3 4 " ≡ unreadable)
+  pub counts : (reads 2 "-" ≡ false) × (reads 2 "- - -" ≡ false) × (first_line_of "2 3" ≡ unreadable) × (first_line_of "2 3 4 5" ≡ unreadable)
+  pub blank : (reads 1 "" ≡ false) × (first_line_of "" ≡ unreadable)
+  pub forms : (field_of "1:2:3" ≡ None) × (field_of "--" ≡ None) × (field_of "-1:2" ≡ None) × (field_of "1" ≡ None)
+  pub empties : (field_of ":2" ≡ None) × (field_of "1:" ≡ None) × (field_of ":" ≡ None)
+  pub strangers : (field_of "+1:2" ≡ None) × (field_of "0x1:2" ≡ None) × (field_arrival (49 ∷ 58 ∷ 178 ∷ []) ≡ None)
+  pub controls : (first_line_of "2 3 4\r" ≡ unreadable) × (first_line_of "2\t3 4" ≡ unreadable) × (first_line_of "2 3 4\0" ≡ unreadable)
 
 pub line_examples : LineExamples
 unfolding Lining first_line_of field_of reads

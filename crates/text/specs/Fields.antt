@@ -1,19 +1,18 @@
 -- A field's steps come to what the whole field says: `-`, or the parts at its colon as two numbers.
 -- By induction on the bytes: a byte that is no colon joins the first part, and a colon in a tag is no digit.
 -- Assumes nothing.
-use Rattle.std.specs.Prelude.{ℕ, ◌+◌, ◌≡◌, refl, Bool, true, false, cond, ◌&&◌, leb, eqb}
+use Rattle.std.specs.Prelude.{ℕ, ◌+◌, ◌≡◌, refl, Bool, true, false, cond, ◌&&◌, leb, eqb, Option, None}
 use Rattle.std.proofs.Common.{sym, ap, ◌∙◌, eqb-true}
 use Rattle.std.proofs.Math.Bool.{So}
 use mathlib.Core.List.{List, [], ◌∷◌, cons≢nil}
 use Rattle.laws.specs.Tests.{No, both}
 use Rattle.laws.specs.Folds.{fold, each}
-use Rattle.text.specs.declared.Number.{Number}
-use Rattle.text.specs.declared.Number.TheVariants.{Empty, Value, NoNumber}
-use Rattle.text.specs.declared.Field.TheVariants.{Start, Dash, Output, Tag, NoField}
-use Rattle.text.specs.declared.Arrival.{Arrival}
-use Rattle.text.specs.declared.Arrival.TheVariants.{Words, NoArrival}
+use Rattle.text.specs.declared.number.Number.{Number}
+use Rattle.text.specs.declared.number.Number.TheVariants.{Empty, Value, NoNumber}
+use Rattle.text.specs.declared.field.Field.TheVariants.{Start, Dash, Output, Tag, NoField}
+use Rattle.text.specs.declared.field.Arrival.{Arrival}
 use Rattle.characters.specs.Characters.{dash, colon, is_digit, value}
-use Rattle.text.specs.Lines.{prepended, cut, is_number, largest_output, is_output, output_tag, field_arrival}
+use Rattle.text.specs.Lines.{prepended, cut, is_number, largest_output, is_output, arrival, output_tag, field_arrival}
 use Rattle.text.specs.Steps.{grown, number_step, value_of, may_lead, colon_step, output_step, field_step, tag_end, field_end}
 use Rattle.text.specs.Numbers.{none_stays, number_is, number_value}
 
@@ -40,14 +39,14 @@ tag_steps w n [] = refl
 tag_steps w n (b ∷ f) = tag_steps w (number_step n b) f
 
 -- what the parts say from a number on: one part for a tag, two for an output and a tag
-abbrev tag_from : ℕ → Number → List (List ℕ) → Arrival
-tag_from w n [] = NoArrival
+abbrev tag_from : ℕ → Number → List (List ℕ) → Option Arrival
+tag_from w n [] = None
 tag_from w n (t ∷ []) = tag_end w (fold number_step n t)
-tag_from w n (t ∷ (x ∷ xs)) = NoArrival
+tag_from w n (t ∷ (x ∷ xs)) = None
 
-abbrev pair_from : Number → List (List ℕ) → Arrival
-pair_from n [] = NoArrival
-pair_from n (o ∷ ps) = cond (may_lead (fold number_step n o)) (tag_from (value_of (fold number_step n o) + 1) Empty ps) NoArrival
+abbrev pair_from : Number → List (List ℕ) → Option Arrival
+pair_from n [] = None
+pair_from n (o ∷ ps) = cond (may_lead (fold number_step n o)) (tag_from (value_of (fold number_step n o) + 1) Empty ps) None
 
 colon_no_digit : (n : Number) → number_step n colon ≡ NoNumber
 unfolding grown is_digit
@@ -67,7 +66,7 @@ tag_law w n (b ∷ f) = go (eqb b colon) refl (cut colon f) (cut_some colon f) (
     go false e (p ∷ []) i rec = rec
     go false e (p ∷ (x ∷ xs)) i rec = rec
 
-no_either : (t : Bool) → NoArrival ≡ cond t NoArrival NoArrival
+no_either : (t : Bool) → ◌≡◌ {A = Option Arrival} None (cond t None None)
 no_either true = refl
 no_either false = refl
 
@@ -82,7 +81,7 @@ output_law n (b ∷ f) =
         → field_end (fold field_step (cond t (colon_step n) (Output (number_step n b))) f) ≡ pair_from n (cond t ([] ∷ ps) (prepended b ps))
     go true ps i rec tag = led (may_lead n)
       where
-        led : (m : Bool) → field_end (fold field_step (cond m (Tag (value_of n + 1) Empty) NoField) f) ≡ cond m (tag_from (value_of n + 1) Empty ps) NoArrival
+        led : (m : Bool) → field_end (fold field_step (cond m (Tag (value_of n + 1) Empty) NoField) f) ≡ cond m (tag_from (value_of n + 1) Empty ps) None
         led true = tag (value_of n + 1)
         led false = ap field_end (broken_stays f)
     go false [] i rec tag = absurd (i refl)
@@ -101,11 +100,11 @@ output_value : (o : List ℕ) → So (is_output o) → value_of (fold number_ste
 unfolding is_output
 output_value o h = number_value o (both (is_number o) _ h).0
 
-tag_end_is : (w : ℕ) (t : List ℕ) → tag_end w (fold number_step Empty t) ≡ cond (is_number t) (Words w (value t)) NoArrival
+tag_end_is : (w : ℕ) (t : List ℕ) → tag_end w (fold number_step Empty t) ≡ cond (is_number t) (arrival w (value t)) None
 unfolding tag_end
 tag_end_is w t = rw (number_is t) (go (is_number t) refl)
   where
-    go : (m : Bool) → is_number t ≡ m → cond m (Words w (value_of (fold number_step Empty t))) NoArrival ≡ cond m (Words w (value t)) NoArrival
+    go : (m : Bool) → is_number t ≡ m → cond m (arrival w (value_of (fold number_step Empty t))) None ≡ cond m (arrival w (value t)) None
     go true e = rw (number_value t e)
     go false e = refl
 
@@ -115,14 +114,14 @@ pair_is (o ∷ []) = sym (no_either (may_lead (fold number_step Empty o)))
 pair_is (o ∷ (t ∷ [])) = rw (leads_is o) (go (is_output o) refl)
   where
     go : (m : Bool) → is_output o ≡ m
-        → cond m (tag_end (value_of (fold number_step Empty o) + 1) (fold number_step Empty t)) NoArrival
-        ≡ cond (m && is_number t) (Words (value o + 1) (value t)) NoArrival
+        → cond m (tag_end (value_of (fold number_step Empty o) + 1) (fold number_step Empty t)) None
+        ≡ cond (m && is_number t) (arrival (value o + 1) (value t)) None
     go true e = rw (output_value o e) (tag_end_is (value o + 1) t)
     go false e = refl
 pair_is (o ∷ (t ∷ (x ∷ xs))) = sym (no_either (may_lead (fold number_step Empty o)))
 
 -- what begins with a byte that is no digit is no pair
-no_pair : (b : ℕ) (ps : List (List ℕ)) → No (is_digit b) → NoArrival ≡ output_tag (prepended b ps)
+no_pair : (b : ℕ) (ps : List (List ℕ)) → No (is_digit b) → None ≡ output_tag (prepended b ps)
 unfolding is_output is_number each
 no_pair b [] h = refl
 no_pair b (o ∷ []) h = refl
@@ -142,7 +141,7 @@ unfolding fold field_step cut field_arrival
 field_law [] = refl
 field_law (b ∷ []) = go (eqb b dash) refl
   where
-    go : (t : Bool) → eqb b dash ≡ t → field_end (cond t Dash (output_step Empty b)) ≡ cond t (Words 0 0) (output_tag (cut colon (b ∷ [])))
+    go : (t : Bool) → eqb b dash ≡ t → field_end (cond t Dash (output_step Empty b)) ≡ cond t (arrival 0 0) (output_tag (cut colon (b ∷ [])))
     go true e = refl
     go false e = output_law Empty (b ∷ []) ∙ pair_is (cut colon (b ∷ []))
 field_law (b ∷ (c ∷ f)) = go (eqb b dash) refl

@@ -1,14 +1,12 @@
 -- Document 01, "The program": what the lines of an arrival list say, as definitions over the whole line.
 -- A line is the list of its bytes, without its newline.
 -- Assumes nothing.
-use Rattle.std.specs.Prelude.{ℕ, ◌+◌, Bool, true, false, cond, not, ◌&&◌, leb, eqb, length}
+use Rattle.std.specs.Prelude.{ℕ, ◌+◌, Bool, true, false, cond, not, ◌&&◌, leb, eqb, length, Option, Some, None}
 use mathlib.Core.List.{List, [], ◌∷◌, flat_map}
 use Rattle.laws.specs.Folds.{each}
 use Rattle.characters.specs.Characters.{space, dash, colon, is_digit, value}
-use Rattle.text.specs.declared.Arrival.{Arrival}
-use Rattle.text.specs.declared.Arrival.TheVariants.{Words, NoArrival}
+use Rattle.text.specs.declared.field.Arrival.{Arrival}
 use Rattle.text.specs.declared.FirstLine.{FirstLine}
-use Rattle.text.specs.declared.FirstLine.TheVariants.{Numbers, Unreadable}
 
 -- a byte set before the first of some parts
 abbrev pub prepended : ℕ → List (List ℕ) → List (List ℕ)
@@ -36,14 +34,20 @@ unfoldable pub is_number : List ℕ → Bool
 is_number f = not (is_empty f) && (each is_digit f && leb (value f) largest_number)
 
 -- "N, S and table length on the first line"
-abbrev pub three : List (List ℕ) → FirstLine
-three [] = Unreadable
-three (n ∷ []) = Unreadable
-three (n ∷ (s ∷ [])) = Unreadable
-three (n ∷ (s ∷ (k ∷ []))) = cond (is_number n && (is_number s && is_number k)) (Numbers (value n) (value s) (value k)) Unreadable
-three (n ∷ (s ∷ (k ∷ (x ∷ xs)))) = Unreadable
+abbrev pub numbers : ℕ → ℕ → ℕ → Option FirstLine
+numbers n s k = Some (record { ports = n; speedup = s; records = k })
 
-unfoldable pub first_line : List ℕ → FirstLine
+abbrev pub unreadable : Option FirstLine
+unreadable = None
+
+abbrev pub three : List (List ℕ) → Option FirstLine
+three [] = unreadable
+three (n ∷ []) = unreadable
+three (n ∷ (s ∷ [])) = unreadable
+three (n ∷ (s ∷ (k ∷ []))) = cond (is_number n && (is_number s && is_number k)) (numbers (value n) (value s) (value k)) unreadable
+three (n ∷ (s ∷ (k ∷ (x ∷ xs)))) = unreadable
+
+unfoldable pub first_line : List ℕ → Option FirstLine
 first_line line = three (line_fields line)
 
 -- "`-`": no cell, two zero words
@@ -59,23 +63,27 @@ largest_output = 4294967294
 unfoldable pub is_output : List ℕ → Bool
 is_output f = is_number f && leb (value f) largest_output
 
+-- what a field says, as an input's two words
+abbrev pub arrival : ℕ → ℕ → Option Arrival
+arrival w t = Some (record { word = w; tag = t })
+
 -- "`output:tag`": the words are output + 1 and the tag
-abbrev pub output_tag : List (List ℕ) → Arrival
-output_tag [] = NoArrival
-output_tag (o ∷ []) = NoArrival
-output_tag (o ∷ (t ∷ [])) = cond (is_output o && is_number t) (Words (value o + 1) (value t)) NoArrival
-output_tag (o ∷ (t ∷ (x ∷ xs))) = NoArrival
+abbrev pub output_tag : List (List ℕ) → Option Arrival
+output_tag [] = None
+output_tag (o ∷ []) = None
+output_tag (o ∷ (t ∷ [])) = cond (is_output o && is_number t) (arrival (value o + 1) (value t)) None
+output_tag (o ∷ (t ∷ (x ∷ xs))) = None
 
-unfoldable pub field_arrival : List ℕ → Arrival
-field_arrival f = cond (is_dash f) (Words 0 0) (output_tag (cut colon f))
+unfoldable pub field_arrival : List ℕ → Option Arrival
+field_arrival f = cond (is_dash f) (arrival 0 0) (output_tag (cut colon f))
 
-abbrev pub is_read : Arrival → Bool
-is_read (Words a b) = true
-is_read NoArrival = false
+abbrev pub is_read : Option Arrival → Bool
+is_read (Some a) = true
+is_read None = false
 
-abbrev pub field_words : Arrival → List ℕ
-field_words (Words a b) = a ∷ b ∷ []
-field_words NoArrival = []
+abbrev pub field_words : Option Arrival → List ℕ
+field_words (Some a) = a.word ∷ a.tag ∷ []
+field_words None = []
 
 -- "a line a slot, with `-` or `output:tag` for each input": whether a line is one for n inputs, and its words for the inputs in turn
 unfoldable pub is_slot_line : ℕ → List ℕ → Bool

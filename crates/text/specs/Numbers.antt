@@ -6,8 +6,8 @@ use Rattle.std.proofs.Math.Bool.{So, and-false}
 use Rattle.std.proofs.lemmas.Bool.{false≢true, lt-leb}
 use Rattle.std.proofs.Common.{arith, leb-true, leb-false, le-leb}
 use Rattle.laws.specs.Folds.{fold, each}
-use Rattle.text.specs.declared.Number.{Number}
-use Rattle.text.specs.declared.Number.TheVariants.{Empty, Value, NoNumber}
+use Rattle.text.specs.declared.number.Number.{Number}
+use Rattle.text.specs.declared.number.Number.TheVariants.{Empty, Value, NoNumber}
 use Rattle.characters.specs.Characters.{is_digit, push, value}
 use Rattle.text.specs.Lines.{largest_number, is_empty, is_number}
 use Rattle.text.specs.Steps.{grown, number_step, is_value, value_of}

@@ -1,9 +1,12 @@
 -- What the code does with the part of a line that a piece of the input has: the steps over its bytes, up to the byte that ends what is read.
 -- Definitions that its contracts cite, then the laws by which parts are joined, and numbers, fields and lines read at once.
 -- Assumes nothing.
-use Rattle.std.specs.Prelude.{ℕ, ◌+◌, ◌≤◌, ◌<◌, ◌≡◌, Bool, true, false, cond, ◌&&◌, ◌||◌, leb, ltb, eqb}
+use Rattle.std.specs.Prelude.{ℕ, zero, suc, ◌+◌, ◌≤◌, ◌<◌, ◌≡◌, Bool, true, false, cond, ◌&&◌, ◌||◌, leb, ltb, eqb, nat_lt, drop, Option, Some, None, unwrap_or, position}
+use Rattle.std.specs.List.{position_or_len}
 use Rattle.std.proofs.Math.Path.{refl, sym, ap}
-use Rattle.std.proofs.Common.{◌∙◌, ⊎_elim, arith, eqb-true, eq-eqb, ne_eqb, ltb-true, ltb-false}
+use Rattle.std.proofs.Common.{◌∙◌, ⊎_elim, arith, add-zero, eqb-true, eq-eqb, ne_eqb, ltb-true, ltb-false, length-drop}
+use Rattle.std.proofs.lemmas.List.{get_or-drop}
+use Rattle.std.proofs.lemmas.List.Sums.{prefix_len-le-length, fails_before_first, passes_at_first}
 use Rattle.std.proofs.Math.Bool.{So, not}
 use Rattle.std.proofs.lemmas.Bool.{false≢true}
 use mathlib.Core.List.{List, [], ◌∷◌, ◌++◌}
@@ -11,10 +14,10 @@ use Rattle.std.proofs.Math.ListN.{length, get_or}
 use Rattle.laws.specs.Tests.{No, both, either, on_right, neither, refuted, denied, deny}
 use Rattle.laws.specs.Folds.{fold, fold_join, fold_more, each, each_join, each_more, each_as}
 use Rattle.laws.specs.Pieces.{part, part_none, part_join, part_more, part-first}
-use Rattle.text.specs.declared.Number.{Number}
-use Rattle.text.specs.declared.Number.TheVariants.{Empty, Value, NoNumber}
-use Rattle.text.specs.declared.Field.{Field}
-use Rattle.text.specs.declared.Field.TheVariants.{Start, Dash, Output, Tag, NoField}
+use Rattle.text.specs.declared.number.Number.{Number}
+use Rattle.text.specs.declared.number.Number.TheVariants.{Empty, Value, NoNumber}
+use Rattle.text.specs.declared.field.Field.{Field}
+use Rattle.text.specs.declared.field.Field.TheVariants.{Start, Dash, Output, Tag, NoField}
 use Rattle.text.specs.declared.SlotReader.{SlotReader}
 use Rattle.characters.specs.Characters.{space, newline, dash, colon, is_digit, push}
 use Rattle.text.specs.Lines.{largest_number}
@@ -88,6 +91,34 @@ module _ (p : ℕ → Bool) (piece : List ℕ) where
 
   span_as : (q : ℕ → Bool) → ((b : ℕ) → So (p b) → So (q b)) → (i j : ℕ) → Span p piece i j → Span q piece i j
   span_as q f i j x = record { order = x.order; inside = x.inside; all = each_as p q f (part piece i j) x.all }
+
+-- up to the first byte that ends what is read
+abbrev pub first_place : (ℕ → Bool) → List ℕ → ℕ
+first_place end l = unwrap_or (position end l) (length l)
+
+first_is : (end : ℕ → Bool) (l : List ℕ) → first_place end l ≡ position_or_len end l
+first_is end l = go (nat_lt (position_or_len end l) (length l)) refl
+  where
+    go : (t : Bool) → nat_lt (position_or_len end l) (length l) ≡ t → unwrap_or (cond t (Some (position_or_len end l)) None) (length l) ≡ position_or_len end l
+    go true e = refl
+    go false e = omega (arith, ltb-false (position_or_len end l) (length l) e, prefix_len-le-length (λ b. not (end b)) l)
+
+first_span : (end : ℕ → Bool) (piece : List ℕ) (i k : ℕ) → i ≤ length piece → k ≤ position_or_len end (drop i piece)
+    → Span (λ b. not (end b)) piece i (i + k)
+first_span end piece i zero h l = rw add-zero (span_none (λ b. not (end b)) piece i h)
+first_span end piece i (suc k) h l =
+    let inside : i + k < length piece = omega (arith, length-drop i piece, prefix_len-le-length (λ b. not (end b)) (drop i piece)) in
+    let clear : No (end (get_or piece (i + k) 0)) = ap end (sym (get_or-drop i piece k 0)) ∙ fails_before_first end (drop i piece) k 0 (omega arith) in
+    let e : i + k + 1 ≡ i + suc k = omega arith in
+    rw (← e) (span_more (λ b. not (end b)) piece i (i + k) (first_span end piece i k h (omega arith)) inside (deny (end (get_or piece (i + k) 0)) clear))
+
+pub upto_first : (end : ℕ → Bool) (piece : List ℕ) (i : ℕ) → i ≤ length piece → Upto end piece i (i + first_place end (drop i piece))
+upto_first end piece i h = rw first_is (record {
+  span = first_span end piece i (position_or_len end (drop i piece)) h (omega arith);
+  here = λ l.
+      ap end (sym (get_or-drop i piece (position_or_len end (drop i piece)) 0))
+      ∙ passes_at_first end (drop i piece) 0 (omega (arith, length-drop i piece));
+})
 
 -- what is passed and what is taken ---------------------------------------------------------------
 
@@ -341,6 +372,14 @@ unfolding ends
 ends-space b h k =
     ⊎_elim (λ e. eqb-true b space e)
     (λ s. ⊎_elim (λ e. eqb-true b space e) (λ e. absurd (h (eqb-true b newline e))) (either (eqb b space) _ s))
+    (either (eqb b space) _ k)
+
+-- and what ends a field and is no space is a newline
+pub ends-newline : (b : ℕ) → (b ≡ space → ⊥) → So (ends space b) → b ≡ newline
+unfolding ends
+ends-newline b h k =
+    ⊎_elim (λ e. absurd (h (eqb-true b space e)))
+    (λ s. ⊎_elim (λ e. absurd (h (eqb-true b space e))) (λ e. eqb-true b newline e) (either (eqb b space) _ s))
     (either (eqb b space) _ k)
 
 -- how far a line was read

@@ -1,7 +1,7 @@
 -- The law of the readers: from a line's start, a step for each byte, and the line's end come to what the line says as a whole.
 -- The steps over a line are its fields taken in turn; then by induction on the fields. Of a first line the law itself stands in proofs/Reading.antt.
 -- Assumes nothing.
-use Rattle.std.specs.Prelude.{ℕ, suc, ◌+◌, ◌*◌, ◌≤◌, ◌<◌, ◌≡◌, refl, Bool, true, false, cond, ◌&&◌, leb, eqb, length, take, drop}
+use Rattle.std.specs.Prelude.{ℕ, suc, ◌+◌, ◌*◌, ◌≤◌, ◌<◌, ◌≡◌, refl, Bool, true, false, cond, ◌&&◌, leb, eqb, length, take, drop, Option, Some, None}
 use Rattle.std.proofs.Common.{sym, ap, ◌∙◌, arith, length-append, length-take-le, take_at, take_all, leb-true, leb-false, eqb-true, eq-eqb, ne_eqb}
 use Rattle.std.proofs.Math.Bool.{So, and-false}
 use Rattle.std.proofs.lemmas.Bool.{false≢true}
@@ -11,15 +11,13 @@ use Rattle.std.proofs.Math.Seq.{length-sets}
 use Rattle.laws.specs.Tests.{both, join, same_test}
 use Rattle.laws.specs.Folds.{fold, each}
 use Rattle.rules.specs.Answers.{arrival_width}
-use Rattle.text.specs.declared.Number.{Number}
-use Rattle.text.specs.declared.Number.TheVariants.{Empty}
-use Rattle.text.specs.declared.Field.TheVariants.{Start, NoField}
-use Rattle.text.specs.declared.Arrival.{Arrival}
-use Rattle.text.specs.declared.Arrival.TheVariants.{Words, NoArrival}
+use Rattle.text.specs.declared.number.Number.{Number}
+use Rattle.text.specs.declared.number.Number.TheVariants.{Empty}
+use Rattle.text.specs.declared.field.Field.TheVariants.{Start, NoField}
+use Rattle.text.specs.declared.field.Arrival.{Arrival}
 use Rattle.text.specs.declared.FirstLine.{FirstLine}
-use Rattle.text.specs.declared.FirstLine.TheVariants.{Numbers, Unreadable}
 use Rattle.characters.specs.Characters.{space, value}
-use Rattle.text.specs.Lines.{prepended, cut, line_fields, is_number, three, field_arrival, is_read, field_words, is_slot_line, slot_line_words}
+use Rattle.text.specs.Lines.{prepended, cut, line_fields, is_number, numbers, unreadable, three, field_arrival, is_read, field_words, is_slot_line, slot_line_words}
 use Rattle.text.specs.Steps.{number_step, value_of, field_step, LineState, line_state, slot_start, written, end_field, slot_step, is_complete, Finished}
 use Rattle.text.specs.Steps.{first, one_more, first_step, three_of, first_answer}
 use Rattle.text.specs.Numbers.{number_is, number_value}
@@ -28,8 +26,8 @@ use Rattle.text.specs.Fields.{cut_some, broken_stays, field_law}
 -- the first line ------------------------------------------------------------------------------
 
 -- what the fields that are left come to
-abbrev pub after : ℕ → Number → Number → Number → List (List ℕ) → FirstLine
-after k n s r [] = Unreadable
+abbrev pub after : ℕ → Number → Number → Number → List (List ℕ) → Option FirstLine
+after k n s r [] = unreadable
 after k n s r (f ∷ []) = first_answer (first k n s (fold number_step r f))
 after k n s r (f ∷ (g ∷ gs)) = after (one_more k) s (fold number_step r f) Empty (g ∷ gs)
 
@@ -50,7 +48,7 @@ first_steps k n s r (b ∷ line) =
     go false (p ∷ (q ∷ qs)) i x y = y
 
 -- a fourth field is one too many
-pub too_many : (n s r : Number) (fs : List (List ℕ)) → after 3 n s r fs ≡ Unreadable
+pub too_many : (n s r : Number) (fs : List (List ℕ)) → after 3 n s r fs ≡ unreadable
 unfolding first_answer
 too_many n s r [] = refl
 too_many n s r (f ∷ []) = refl
@@ -61,8 +59,8 @@ unfolding three_of
 three_is n s k = rw (number_is n, number_is s, number_is k) (go (is_number n) refl (is_number s) refl (is_number k) refl)
   where
     go : (a : Bool) → is_number n ≡ a → (b : Bool) → is_number s ≡ b → (c : Bool) → is_number k ≡ c
-        → cond (a && (b && c)) (Numbers (value_of (fold number_step Empty n)) (value_of (fold number_step Empty s)) (value_of (fold number_step Empty k))) Unreadable
-        ≡ cond (a && (b && c)) (Numbers (value n) (value s) (value k)) Unreadable
+        → cond (a && (b && c)) (numbers (value_of (fold number_step Empty n)) (value_of (fold number_step Empty s)) (value_of (fold number_step Empty k))) unreadable
+        ≡ cond (a && (b && c)) (numbers (value n) (value s) (value k)) unreadable
     go true h true i true j = rw (number_value n h, number_value s i, number_value k j)
     go true h true i false j = refl
     go true h false i c j = refl
@@ -119,23 +117,23 @@ unfolding is_complete
 broken_comes at ws fs gs h = rw (broken_line at ws fs) (record { whole = sym h; size = refl; words = λ k. absurd (false≢true k) })
 
 -- a field that says nothing, or one that has no room, breaks the line; another is followed by the rest
-none-comes : (at : ℕ) (ws f : List ℕ) (fs : List (List ℕ)) → field_arrival f ≡ NoArrival → Comes at ws (f ∷ fs) (fold take_field (written NoArrival at ws) fs)
+none-comes : (at : ℕ) (ws f : List ℕ) (fs : List (List ℕ)) → field_arrival f ≡ None → Comes at ws (f ∷ fs) (fold take_field (written None at ws) fs)
 unfolding written each
 none-comes at ws f fs e = broken_comes at ws fs (f ∷ fs) (rw e)
 
-words_come : (at : ℕ) (ws f : List ℕ) (fs : List (List ℕ)) (a b : ℕ) → field_arrival f ≡ Words a b
-    → let vs : List ℕ = sets ws at (field_words (Words a b)) in
+words_come : (at : ℕ) (ws f : List ℕ) (fs : List (List ℕ)) (a : Arrival) → field_arrival f ≡ Some a
+    → let vs : List ℕ = sets ws at (field_words (Some a)) in
     Comes (at + arrival_width) vs fs (fold take_field (line_state (at + arrival_width) Start vs) fs)
-    → Comes at ws (f ∷ fs) (fold take_field (written (Words a b) at ws) fs)
+    → Comes at ws (f ∷ fs) (fold take_field (written (Some a) at ws) fs)
 unfolding written each flat_map
-words_come at ws f fs a b e x = go (leb (at + arrival_width) (length ws)) refl
+words_come at ws f fs a e x = go (leb (at + arrival_width) (length ws)) refl
   where
-    size : length (sets ws at (field_words (Words a b))) ≡ length ws
-    size = length-sets ws at (field_words (Words a b))
+    size : length (sets ws at (field_words (Some a))) ≡ length ws
+    size = length-sets ws at (field_words (Some a))
 
     go : (t : Bool) → leb (at + arrival_width) (length ws) ≡ t
         → Comes at ws (f ∷ fs)
-        (fold take_field (cond t (line_state (at + arrival_width) Start (sets ws at (field_words (Words a b)))) (line_state at NoField ws)) fs)
+        (fold take_field (cond t (line_state (at + arrival_width) Start (sets ws at (field_words (Some a)))) (line_state at NoField ws)) fs)
     go true i =
         let h : at + arrival_width ≤ length ws = leb-true (at + arrival_width) (length ws) i in
         let m : at + arrival_width + length fs * arrival_width ≡ at + suc (length fs) * arrival_width = omega arith in
@@ -144,8 +142,8 @@ words_come at ws f fs a b e x = go (leb (at + arrival_width) (length ws)) refl
           size = x.size ∙ size;
           words = λ k.
               rw e
-              (x.words k ∙ ap (λ (l : List ℕ). l ++ meant fs) (take-sets ws at (field_words (Words a b)) h)
-              ∙ append_assoc (take at ws) (field_words (Words a b)) (meant fs));
+              (x.words k ∙ ap (λ (l : List ℕ). l ++ meant fs) (take-sets ws at (field_words (Some a)) h)
+              ∙ append_assoc (take at ws) (field_words (Some a)) (meant fs));
         }
     go false i =
         let h : length ws < at + arrival_width = leb-false (at + arrival_width) (length ws) i in
@@ -154,7 +152,7 @@ words_come at ws f fs a b e x = go (leb (at + arrival_width) (length ws)) refl
 
 take-field : (at : ℕ) (ws f : List ℕ) → take_field (line_state at Start ws) f ≡ written (field_arrival f) at ws
 unfolding end_field
-take-field at ws f = ap (λ (r : Arrival). written r at ws) (field_law f)
+take-field at ws f = ap (λ (r : Option Arrival). written r at ws) (field_law f)
 
 comes : (at : ℕ) (ws : List ℕ) (fs : List (List ℕ)) → Comes at ws fs (fold take_field (line_state at Start ws) fs)
 unfolding fold is_complete each flat_map
@@ -163,14 +161,14 @@ comes at ws [] = record {
   size = refl;
   words = λ h. sym (append-nil (take at ws) ∙ take_all at ws (omega (arith, eqb-true at (length ws) h)));
 }
-comes at ws (f ∷ fs) = rw (take-field at ws f) (taken (field_arrival f) refl (λ a b. comes (at + arrival_width) (sets ws at (field_words (Words a b))) fs))
+comes at ws (f ∷ fs) = rw (take-field at ws f) (taken (field_arrival f) refl (λ a. comes (at + arrival_width) (sets ws at (field_words (Some a))) fs))
   where
-    taken : (r : Arrival) → field_arrival f ≡ r
-        → ((a b : ℕ) → Comes (at + arrival_width) (sets ws at (field_words (Words a b))) fs
-        (fold take_field (line_state (at + arrival_width) Start (sets ws at (field_words (Words a b)))) fs))
+    taken : (r : Option Arrival) → field_arrival f ≡ r
+        → ((a : Arrival) → Comes (at + arrival_width) (sets ws at (field_words (Some a))) fs
+        (fold take_field (line_state (at + arrival_width) Start (sets ws at (field_words (Some a)))) fs))
         → Comes at ws (f ∷ fs) (fold take_field (written r at ws) fs)
-    taken (Words a b) e rec = words_come at ws f fs a b e (rec a b)
-    taken NoArrival e rec = none-comes at ws f fs e
+    taken (Some a) e rec = words_come at ws f fs a e (rec a)
+    taken None e rec = none-comes at ws f fs e
 
 -- what is promised of a slot line for n inputs: the answer, and for a line that is read every word of the list. Any other line leaves what it wrote.
 pub record Reads (n : ℕ) (line : List ℕ) (answer : Bool) (ws : List ℕ) : Type 0 where

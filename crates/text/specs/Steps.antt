@@ -1,21 +1,19 @@
 -- What the code does at each byte: the steps that its contracts cite.
 -- Assumes nothing.
-use Rattle.std.specs.Prelude.{ℕ, ◌+◌, ◌≡◌, Bool, true, false, cond, ◌&&◌, List, leb, ltb, eqb, length}
+use Rattle.std.specs.Prelude.{ℕ, ◌+◌, ◌≡◌, Bool, true, false, cond, ◌&&◌, List, leb, ltb, eqb, length, Option, Some, None}
 use Rattle.std.proofs.Common.{sym, ◌∙◌}
 use Rattle.std.proofs.lemmas.List.Edits.{sets}
 use Rattle.rules.specs.Answers.{arrival_width}
-use Rattle.text.specs.declared.Number.{Number}
-use Rattle.text.specs.declared.Number.TheVariants.{Empty, Value, NoNumber}
-use Rattle.text.specs.declared.Field.{Field}
-use Rattle.text.specs.declared.Field.TheVariants.{Start, Dash, Output, Tag, NoField}
-use Rattle.text.specs.declared.Arrival.{Arrival}
-use Rattle.text.specs.declared.Arrival.TheVariants.{Words, NoArrival}
+use Rattle.text.specs.declared.number.Number.{Number}
+use Rattle.text.specs.declared.number.Number.TheVariants.{Empty, Value, NoNumber}
+use Rattle.text.specs.declared.field.Field.{Field}
+use Rattle.text.specs.declared.field.Field.TheVariants.{Start, Dash, Output, Tag, NoField}
+use Rattle.text.specs.declared.field.Arrival.{Arrival}
 use Rattle.text.specs.declared.FirstLine.{FirstLine}
-use Rattle.text.specs.declared.FirstLine.TheVariants.{Numbers, Unreadable}
 use Rattle.text.specs.declared.FirstReader.{FirstReader}
 use Rattle.text.specs.declared.SlotReader.{SlotReader}
 use Rattle.characters.specs.Characters.{space, dash, colon, is_digit, push}
-use Rattle.text.specs.Lines.{largest_number, field_words, largest_output}
+use Rattle.text.specs.Lines.{largest_number, numbers, unreadable, arrival, field_words, largest_output}
 
 -- a number ------------------------------------------------------------------------------------
 
@@ -37,6 +35,11 @@ value_of Empty = 0
 value_of (Value v) = v
 value_of NoNumber = 0
 
+abbrev pub value_in : Number → Option ℕ
+value_in Empty = None
+value_in (Value v) = Some v
+value_in NoNumber = None
+
 -- a field of a slot line ------------------------------------------------------------------------
 
 -- a number that is an output
@@ -57,15 +60,15 @@ field_step (Output n) b = output_step n b
 field_step (Tag w n) b = Tag w (number_step n b)
 field_step NoField b = NoField
 
-unfoldable pub tag_end : ℕ → Number → Arrival
-tag_end w n = cond (is_value n) (Words w (value_of n)) NoArrival
+unfoldable pub tag_end : ℕ → Number → Option Arrival
+tag_end w n = cond (is_value n) (arrival w (value_of n)) None
 
-abbrev pub field_end : Field → Arrival
-field_end Start = NoArrival
-field_end Dash = Words 0 0
-field_end (Output n) = NoArrival
+abbrev pub field_end : Field → Option Arrival
+field_end Start = None
+field_end Dash = arrival 0 0
+field_end (Output n) = None
 field_end (Tag w n) = tag_end w n
-field_end NoField = NoArrival
+field_end NoField = None
 
 -- a slot line -----------------------------------------------------------------------------------
 
@@ -87,10 +90,10 @@ abbrev pub slot_start : List ℕ → LineState
 slot_start ws = line_state_of reader_start ws
 
 -- a field's words at `at`, where the list has room for them
-unfoldable pub written : Arrival → ℕ → List ℕ → LineState
-written (Words a b) at ws =
-    cond (leb (at + arrival_width) (length ws)) (line_state (at + arrival_width) Start (sets ws at (field_words (Words a b)))) (line_state at NoField ws)
-written NoArrival at ws = line_state at NoField ws
+unfoldable pub written : Option Arrival → ℕ → List ℕ → LineState
+written (Some a) at ws =
+    cond (leb (at + arrival_width) (length ws)) (line_state (at + arrival_width) Start (sets ws at (field_words (Some a)))) (line_state at NoField ws)
+written None at ws = line_state at NoField ws
 
 unfoldable pub end_field : LineState → LineState
 end_field s = written (field_end s.reader.field) s.reader.at s.words
@@ -134,8 +137,8 @@ first_step x b =
     (first (one_more x.ended) x.speedup x.records Empty)
     (first x.ended x.ports x.speedup (number_step x.records b))
 
-unfoldable pub three_of : Number → Number → Number → FirstLine
-three_of n s r = cond (is_value n && (is_value s && is_value r)) (Numbers (value_of n) (value_of s) (value_of r)) Unreadable
+unfoldable pub three_of : Number → Number → Number → Option FirstLine
+three_of n s r = cond (is_value n && (is_value s && is_value r)) (numbers (value_of n) (value_of s) (value_of r)) unreadable
 
-unfoldable pub first_answer : FirstReader → FirstLine
-first_answer x = cond (eqb x.ended 2) (three_of x.ports x.speedup x.records) Unreadable
+unfoldable pub first_answer : FirstReader → Option FirstLine
+first_answer x = cond (eqb x.ended 2) (three_of x.ports x.speedup x.records) unreadable

@@ -1,26 +1,33 @@
 -- A turn reads the line up to the end of the field that it has come to, or to the piece's, and then the space that ends the field.
 -- Assumes nothing.
-use Rattle.std.proofs.Common.{◌<◌, length, arith}
-use Rattle.text.specs.Parts.{stepped_none, line_field, line_space, line_taken}
+use Rattle.std.proofs.Common.{◌<◌, refl, ◌∙◌, sym, length, arith}
+use Rattle.laws.specs.Tests.{denied, to_so}
+use Rattle.text.specs.Parts.{stepped_none, ends-newline, line_field, line_space, line_taken}
+use Rattle.text.proofs.Places.{passed, failed}
 use Rattle.text.proofs.SlotReader.read.Goals as goal
 
-pub loop-next-init : goal.loop-next-init
-loop-next-init c = stepped_none _ _ _ _ _ c.requires
+pub loop-reader-init : goal.loop-reader-init
+loop-reader-init c = record { reached = stepped_none _ _ _ _ _ c.args.piece.now.inside; same_bytes = refl }
 
-pub returns-then-next-piece : goal.returns-then-next-piece
-returns-then-next-piece c =
-    line_taken _ _ _ _ _ (line_field _ _ _ _ _ _ _ _ c.loop-next.invariant c.rest-part.ensures.at c.rest-part.ensures.field)
-    (λ l. absurd (omega (arith, l, c.if-next-piece.true)))
+pub returns-then-ne-clause-taken : goal.returns-then-ne-clause-taken
+returns-then-ne-clause-taken c =
+    let same = c.loop-reader.invariant.same_bytes in
+    let field = rw same at c.read-reader.ensures.taken in
+    let other = failed _ _ (c.read-reader.ensures.same_bytes ∙ same) _ _ c.peek.ensures _ _ refl (denied _ (sym c.ne.ensures ∙ c.if-ne.true)) in
+    line_taken _ _ _ _ _ (line_field _ _ _ _ _ _ _ _ c.loop-reader.invariant.reached refl field) (λ l. ends-newline _ (other l) (field.place.here l))
 
-pub returns-then-piece-next-eq-NEWLINE : goal.returns-then-piece-next-eq-NEWLINE
-returns-then-piece-next-eq-NEWLINE c =
-    line_taken _ _ _ _ _ (line_field _ _ _ _ _ _ _ _ c.loop-next.invariant c.rest-part.ensures.at c.rest-part.ensures.field)
-    (λ l. c.if-piece-next-eq-NEWLINE.true)
+pub advance-requires : goal.advance-requires
+advance-requires c = (passed _ _ refl _ _ c.peek.ensures _ _ refl (to_so _ (sym c.ne.ensures ∙ c.if-ne.false))).inside
 
-pub loop-next-preserved : goal.loop-next-preserved
-loop-next-preserved c =
-    let r = c.rest-part.ensures in
-    let p = r.field.place in
-    let m : c.rest-part.result.next < length c.args.piece.now = omega (arith, c.if-next-piece.false, p.span.inside) in
-    line_space _ _ _ _ _ _ (line_field _ _ _ _ _ _ _ _ c.loop-next.invariant r.at r.field) m (p.here m) c.if-piece-next-eq-NEWLINE.false
-    c.end_field-reader.ensures
+pub loop-reader-preserved : goal.loop-reader-preserved
+loop-reader-preserved c =
+    let same = c.loop-reader.invariant.same_bytes in
+    let field = rw same at c.read-reader.ensures.taken in
+    let all = c.read-reader.ensures.same_bytes ∙ same in
+    let byte = passed _ _ all _ _ c.peek.ensures _ _ refl (to_so _ (sym c.ne.ensures ∙ c.if-ne.false)) in
+    record {
+      reached = rw c.advance.ensures.next
+          (line_space _ _ _ _ _ _ (line_field _ _ _ _ _ _ _ _ c.loop-reader.invariant.reached refl field) byte.inside (field.place.here byte.inside)
+          (λ e. omega (arith, e, byte.here)) c.end_field-reader.ensures);
+      same_bytes = c.advance.ensures.same_bytes ∙ all;
+    }
