@@ -35,6 +35,9 @@ put_within x h = record { bytes = x.bytes; within = omega (arith, x.within) }
 pub put_size : {most : ℕ} {old text new : List ℕ} → Put most old text new → length new ≤ length old + most
 put_size {old = old} {text = text} x = omega (arith, x.within, ap length x.bytes, length-append old text)
 
+pub put_fits : {m most : ℕ} {old text new : List ℕ} → Put m old text new → length new ≤ length old + most → Put most old text new
+put_fits {old = old} {text = text} x h = record { bytes = x.bytes; within = omega (arith, h, ap length x.bytes, length-append old text) }
+
 -- a decimal number ----------------------------------------------------------------------------
 
 digits_step : (k n : ℕ) → digits (suc k) n ≡ cond (ltb n 10) (digit_byte n ∷ []) (digits k (n / 10) ++ (digit_byte (n % 10) ∷ []))
