@@ -21,14 +21,13 @@ not_done NoSuchOutput = refl
 not_done ClockSpent = refl
 not_done NoRoom = refl
 
-pub is_done_else : (a : Answer) → ((r : Refusal) → a ≡ Err r → ⊥) → So (is_done a)
+pub ok_done : (u : Unit {0}) → So (is_done (Ok u))
 unfolding is_done
-is_done_else (Ok u) h = refl
-is_done_else (Err r) h = absurd (h r refl)
+ok_done u = refl
 
-pub done_text : (w : Switch) (e : List ℕ) → answer_text w (Ok tt) e ≡ slot_text w.next.0 w.ports e
+pub done_text : (w : Switch) (u : Unit {0}) (e : List ℕ) → answer_text w (Ok u) e ≡ slot_text w.next.0 w.ports e
 unfolding answer_text is_done
-done_text w e = refl
+done_text w u e = refl
 
 pub refused_text : (w : Switch) (r : Refusal) (e : List ℕ) → answer_text w (Err r) e ≡ refused_line (number_of (Err r))
 unfolding answer_text

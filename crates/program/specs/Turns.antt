@@ -108,9 +108,9 @@ unfolding coming_by
 turns_first r b out table h = record { text = []; put = put_none end_room out; comes = λ ws rest. opening_byte r b rest h }
 
 -- a lent front that came back, the rest being kept
-pub state_front : (x : Running) (front rest : List ℕ) → length front ≡ x.words
-    → state_of x (front ++ rest) ≡ record { numbers = x.crossbar.numbers; table = front }
-state_front x front rest h = ap (λ (l : List ℕ). record { numbers = x.crossbar.numbers; table = l }) (take_at front rest x.words h)
+pub state_front : (w : Switch) (words : ℕ) (front rest : List ℕ) → length front ≡ words
+    → ◌≡◌ {A = State} (record { numbers = w; table = take words (front ++ rest) }) (record { numbers = w; table = front })
+state_front w words front rest h = ap (λ (l : List ℕ). record { numbers = w; table = l }) (take_at front rest words h)
 
 -- a slot line's text, and the switch between two lines; the lent front of the table came back
 pub turns_line : (x y : Running) (table words rest : List ℕ) {out out' : List ℕ} (o : Outcome) → o ≡ slot_on (state_of x table) words
@@ -118,7 +118,7 @@ pub turns_line : (x y : Running) (table words rest : List ℕ) {out out' : List 
     → Turns (on_words (state_of x table) words) out (Between y) (o.table ++ rest) out'
 turns_line x y table words rest o is n w l p =
     turns_between p (omega arith)
-    (λ more. rw (line_text_lem (state_of x table) words o is, line_after_lem (state_of x table) words o is, ← n, ← state_front y o.table rest (l ∙ sym w)))
+    (λ more. rw (line_text_lem (state_of x table) words o is, line_after_lem (state_of x table) words o is, ← n, ← state_front y.crossbar.numbers y.words o.table rest (l ∙ sym w)))
 
 -- a slot line's end, where it was not read and where it was
 module _ (x : State) (s : LineState) {out out' table : List ℕ} where

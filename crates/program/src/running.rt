@@ -80,7 +80,7 @@ impl Running {
     {
         let width = self.line_words();
         let reader = reader.read(piece, &mut arrivals[..width]);
-        if piece.peek().is_none() {
+        if piece.next == piece.bytes.len() {
             return Program::Within(self, reader);
         }
         piece.advance();
@@ -130,17 +130,13 @@ impl Running {
         let numbers = self.crossbar.numbers;
         let ports = numbers.ports as usize;
         let moved = numbers.speedup as usize * ports;
-        let emitted = ports * EXHALED_WORDS;
         let mut matches = [0; MATCH_WORDS];
         let mut exhaled = [0; EMITTED_WORDS];
+        let exhaled = &mut exhaled[..ports * EXHALED_WORDS];
         let mut crossbar = self.crossbar;
-        let answer = crossbar.slot(
-            &mut table[..self.words],
-            arrivals,
-            &mut matches[..moved],
-            &mut exhaled[..emitted],
-        );
-        put_outcome(answer, numbers, &exhaled[..emitted], out);
+        let own = &mut table[..self.words];
+        let answer = crossbar.slot(own, arrivals, &mut matches[..moved], exhaled);
+        put_outcome(answer, numbers, exhaled, out);
         Program::Between(Running {
             crossbar,
             words: self.words,
