@@ -23,9 +23,6 @@ put_settled x y = x.bytes ∙ sym y.bytes
 pub put_none : (most : ℕ) (old : List ℕ) → Put most old [] old
 put_none most old = record { bytes = sym (append-nil old); within = omega arith }
 
-pub put_byte : (old : List ℕ) (b : ℕ) → Put 1 old (b ∷ []) (old ++ (b ∷ []))
-put_byte old b = record { bytes = refl; within = omega arith }
-
 pub put_then : {m n most : ℕ} {old mid new s t : List ℕ} → Put m old s mid → Put n mid t new → m + n ≤ most → Put most old (s ++ t) new
 put_then {old = old} {s = s} {t = t} x y h = record {
   bytes = y.bytes ∙ ap (λ (l : List ℕ). l ++ t) x.bytes ∙ append_assoc old s t;
@@ -37,6 +34,9 @@ put_within x h = record { bytes = x.bytes; within = omega (arith, x.within) }
 
 pub put_size : {most : ℕ} {old text new : List ℕ} → Put most old text new → length new ≤ length old + most
 put_size {old = old} {text = text} x = omega (arith, x.within, ap length x.bytes, length-append old text)
+
+pub put_fits : {m most : ℕ} {old text new : List ℕ} → Put m old text new → length new ≤ length old + most → Put most old text new
+put_fits {old = old} {text = text} x h = record { bytes = x.bytes; within = omega (arith, h, ap length x.bytes, length-append old text) }
 
 -- a decimal number ----------------------------------------------------------------------------
 

@@ -1,16 +1,18 @@
 // Printed lines, put one behind the other into a fixed vector that the caller lends.
 #![tactic(auto)]
 
-ghost use Rattle.std.specs.Prelude.{◌+◌, ◌*◌, ◌≤◌, [], ◌∷◌, ◌++◌, length};
+mod line;
+
+ghost use Rattle.std.specs.Prelude.{◌+◌, ◌≤◌, ◌++◌, length};
 ghost use Rattle.arrayvec.specs.ArrayVec.{array_vec_len};
 ghost use Rattle.characters.specs.Characters.{newline};
-ghost use Rattle.printing.specs.Printed.{field, numbers_line, header_line, cell_line};
+ghost use Rattle.printing.specs.Printed.{field, header_line, cell_line};
 ghost use Rattle.printing.specs.Printed.{refused_line, unreadable_line, held_line, field_bytes, lead_columns, columns, line_bytes};
 ghost use Rattle.printing.specs.Prints.{Put};
 
 use arrayvec::ArrayVec;
 use characters::{NEWLINE, SPACE};
-use itoa::Buffer;
+use line::Line;
 
 // The digits of the longest number, and the byte behind them; the numbers of a cell's line, and so the bytes of the longest line.
 // `number_bytes`, `field_bytes`, `columns` and `line_bytes` of specs/Printed.antt are the same for contracts.
@@ -55,49 +57,28 @@ pub fn put_held<const N: usize>(out: &mut ArrayVec<u8, N>, live: u32)
 }
 
 // A cell's line: its numbers are the slot, the output, and all that the entry says of the cell.
-#[tactic(auto, using(crate::specs::Prints::put_then), unfolding(crate::specs::Printed::cell_line))]
+#[tactic(auto, using(crate::specs::Prints::put_within), unfolding(crate::specs::Printed::cell_line))]
 pub fn put_cell<const N: usize>(out: &mut ArrayVec<u8, N>, slot: u32, output: u32, entry: &[u32])
     requires columns { lead_columns + length entry.now ≤ columns }
     requires room { array_vec_len out.old + line_bytes ≤ N }
     ensures { Put line_bytes out.old.items (cell_line slot output entry.now) out.new.items }
 {
-    put_field(out, slot, SPACE);
-    put_field(out, output, SPACE);
-    put_numbers(out, entry);
-}
-
-#[tactic(auto, using(crate::specs::Prints::put_size))]
-fn put_numbers<const N: usize>(out: &mut ArrayVec<u8, N>, numbers: &[u32])
-    requires { array_vec_len out.old + length numbers.now * field_bytes ≤ N }
-    ensures { Put (length numbers.now * field_bytes) out.old.items (numbers_line numbers.now) out.new.items }
-{
-    let Some((last, others)) = numbers.split_last() else {
-        return;
-    };
-    for number in others {
-        put_field(out, *number, SPACE);
-    }
-    put_field(out, *last, NEWLINE);
+    let mut line = Line::new();
+    line.prepend_all(entry);
+    line.prepend(output, SPACE);
+    line.prepend(slot, SPACE);
+    put_text(out, line.bytes());
 }
 
 // A word, and a number behind it.
-#[tactic(auto, using(crate::specs::Prints::put_then))]
 fn put_message<const N: usize>(out: &mut ArrayVec<u8, N>, word: &[u8], number: u32)
     requires { array_vec_len out.old + length word.now + field_bytes ≤ N }
     ensures { Put (length word.now + field_bytes) out.old.items (word.now ++ field number newline) out.new.items }
 {
+    let mut line = Line::new();
+    line.prepend(number, NEWLINE);
     put_text(out, word);
-    put_field(out, number, NEWLINE);
-}
-
-// A number, and a byte behind it.
-#[tactic(auto, using(crate::specs::Prints::put_then, crate::specs::Prints::decimal_std), unfolding(crate::specs::Printed::field))]
-fn put_field<const N: usize>(out: &mut ArrayVec<u8, N>, number: u32, after: u8)
-    requires { array_vec_len out.old + field_bytes ≤ N }
-    ensures { Put field_bytes out.old.items (field number after) out.new.items }
-{
-    put_text(out, Buffer::new().format(number).as_bytes());
-    out.push(after);
+    put_text(out, line.bytes());
 }
 
 fn put_text<const N: usize>(out: &mut ArrayVec<u8, N>, text: &[u8])

@@ -1,6 +1,6 @@
 -- Bytes that end no line and one that does, and a line's beginning: what is to come from there is what the whole line says.
 -- Assumes nothing.
-use Rattle.std.specs.Prelude.{ℕ, ◌*◌, ◌≡◌, refl, Bool, true, false, cond, not, List, [], ◌∷◌, ◌++◌, eqb, length}
+use Rattle.std.specs.Prelude.{ℕ, ◌*◌, ◌≡◌, refl, Bool, true, false, cond, not, List, [], ◌∷◌, ◌++◌, Option, eqb, length}
 use Rattle.std.proofs.Common.{sym, ap, ◌∙◌}
 use Rattle.std.proofs.Math.Bool.{So}
 use Rattle.laws.specs.Tests.{No, both, denied}
@@ -30,7 +30,7 @@ opening_byte r b input h = rw h (go (cut newline input) (cut_some newline input)
     go (p ∷ []) i = refl
     go (p ∷ (q ∷ qs)) i = refl
 
-pub opening_end : (r : FirstReader) (b : ℕ) (input : List ℕ) (line : FirstLine) → b ≡ newline → first_answer r ≡ line
+pub opening_end : (r : FirstReader) (b : ℕ) (input : List ℕ) (line : Option FirstLine) → b ≡ newline → first_answer r ≡ line
     → opening_from r (lines_of (b ∷ input)) ≡ first_text line (lines_of input)
 unfolding lines_of cut opening_from fold
 opening_end r b input line e q = rw (e, ← q) (go (cut newline input) (cut_some newline input))

@@ -1,20 +1,19 @@
 -- What is still to be printed in each state of the program, for every rest of the input; the contracts are stated by it.
 -- Assumes nothing.
-use Rattle.std.specs.Prelude.{ℕ, ◌*◌, ◌≤◌, ◌≡◌, Bool, true, false, cond, List, [], ◌∷◌, ◌++◌, length, take, drop}
+use Rattle.std.specs.Prelude.{ℕ, ◌*◌, ◌≤◌, ◌≡◌, Bool, true, false, cond, List, [], ◌∷◌, ◌++◌, Some, take, drop}
 use Rattle.laws.specs.Folds.{fold}
 use Rattle.rules.specs.Answers.{arrival_width}
 use Rattle.rules.specs.Calls.{State}
+use Rattle.text.specs.declared.FirstLine.{FirstLine}
 use Rattle.text.specs.declared.FirstReader.{FirstReader}
+use Rattle.text.specs.declared.piece.Piece.{Piece}
 use Rattle.text.specs.declared.SlotReader.{SlotReader}
 use Rattle.printing.specs.Printed.{unreadable_line}
 use Rattle.printing.specs.Prints.{Put}
 use Rattle.characters.specs.Characters.{newline}
-use Rattle.text.specs.declared.FirstLine.TheVariants.{Numbers}
 use Rattle.text.specs.Steps.{LineState, line_state_of, end_field, slot_step, is_complete, first_step, first_answer}
-use Rattle.program.specs.Lent.{end_room, Inside}
-use Rattle.program.specs.declared.Running.{Running}
-use Rattle.program.specs.declared.Turn.{Turn}
-use Rattle.program.specs.declared.Pass.{Pass}
+use Rattle.program.specs.Lent.{end_room}
+use Rattle.program.specs.declared.running.Running.{Running}
 use Rattle.program.specs.declared.Program.{Program}
 use Rattle.program.specs.declared.Program.TheVariants.{First, Between, Within, Over}
 use Rattle.program.specs.Program.{lines_of, held_text, end_text, line_text, line_after, slots_text, first_text}
@@ -83,8 +82,8 @@ is_over Over = true
 abbrev pub on_byte : FirstReader → ℕ → List ℕ → List ℕ
 on_byte r b rest = opening_from r (lines_of (b ∷ rest))
 
-abbrev pub on_numbers : ℕ → ℕ → ℕ → List ℕ → List ℕ
-on_numbers n s k rest = first_text (Numbers n s k) (lines_of rest)
+abbrev pub on_numbers : FirstLine → List ℕ → List ℕ
+on_numbers line rest = first_text (Some line) (lines_of rest)
 
 abbrev pub on_newline : State → LineState → List ℕ → List ℕ
 on_newline x s rest = line_from x s (lines_of (newline ∷ rest))
@@ -92,28 +91,25 @@ on_newline x s rest = line_from x s (lines_of (newline ∷ rest))
 abbrev pub on_words : State → List ℕ → List ℕ → List ℕ
 on_words x words rest = line_text x words ++ slots_text (line_after x words) (lines_of rest)
 
--- what each of these does: of the `whole` that is to be printed, for each further input, a text is put behind `at`, and the rest is to come from
+-- what each of these does: of the `whole` that is to be printed, for each further input, a text is put behind `out`, and the rest is to come from
 -- the next state, whatever the words of a line are then
-pub record Turns (whole : List ℕ → List ℕ) (out : List ℕ) (at : ℕ) (d : Program) (table out' : List ℕ) (at' : ℕ) : Type 0 where
+pub record Turns (whole : List ℕ → List ℕ) (out : List ℕ) (d : Program) (table out' : List ℕ) : Type 0 where
   pub text : List ℕ
-  pub put : Put end_room out at text out' at'
+  pub put : Put end_room out text out'
   pub comes : (arrivals rest : List ℕ) → whole rest ≡ text ++ coming_by d table arrivals rest
-  pub inside : Inside d
 
--- of the slot that a line's words ask for
-abbrev pub SlotTurns : Running → List ℕ → List ℕ → List ℕ → ℕ → Turn → List ℕ → List ℕ → Type 0
-SlotTurns x table words out at t table' out' = Turns (on_words (state_of x table) words) out at t.program table' out' t.at
+-- the bytes of a piece that were not taken
+abbrev pub unread : Piece → List ℕ
+unread p = drop p.next p.bytes.now
 
--- the same over bytes of a piece: from a stand with those from `from` on unread to one with those from `next` on
-pub record Goes (most : ℕ) (piece : List ℕ) (s : Stand) (from : ℕ) (out : List ℕ) (at : ℕ) (s' : Stand) (next : ℕ) (out' : List ℕ) (at' : ℕ) : Type 0 where
+-- the same over bytes of a piece: from a stand and what is unread there to another stand and what is unread then
+pub record Goes (most : ℕ) (p : Piece) (s : Stand) (out : List ℕ) (p' : Piece) (s' : Stand) (out' : List ℕ) : Type 0 where
   pub text : List ℕ
-  pub put : Put most out at text out' at'
-  pub comes : (rest : List ℕ) → coming s (drop from piece ++ rest) ≡ text ++ coming s' (drop next piece ++ rest)
-  pub inside : Inside s'.program
-  pub order : from ≤ next
-  pub end : next ≤ length piece
+  pub put : Put most out text out'
+  pub comes : (rest : List ℕ) → coming s (unread p ++ rest) ≡ text ++ coming s' (unread p' ++ rest)
+  pub bytes : p'.bytes.now ≡ p.bytes.now
+  pub order : p.next ≤ p'.next
 
 -- of what a pass takes
-abbrev pub PassGoes : ℕ → List ℕ → ℕ → ℕ → Program → List ℕ → List ℕ → List ℕ → Pass → List ℕ → List ℕ → List ℕ → Type 0
-PassGoes most piece from at d table arrivals out p table' arrivals' out' =
-    Goes most piece (stand d table arrivals) from out at (stand p.turn.program table' arrivals') p.next out' p.turn.at
+abbrev pub PassGoes : ℕ → Piece → Program → List ℕ → List ℕ → List ℕ → Piece → Program → List ℕ → List ℕ → List ℕ → Type 0
+PassGoes most p d table arrivals out p' d' table' arrivals' out' = Goes most p (stand d table arrivals) out p' (stand d' table' arrivals') out'

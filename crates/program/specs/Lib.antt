@@ -1,4 +1,5 @@
 pub mod Program
+pub mod Answered
 pub mod Lent
 pub mod Coming
 pub mod Bytes

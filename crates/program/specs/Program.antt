@@ -1,7 +1,7 @@
 -- Document 01, "The program": everything that is printed for an input, as a definition over its lines.
 -- What lines say and how they are printed is `text`'s, and what a fresh start and a slot do is `rules`'; here they are put together.
 -- Assumes nothing.
-use Rattle.std.specs.Prelude.{ℕ, ◌+◌, ◌*◌, cond, List, [], ◌∷◌, ◌++◌, eqb, get_or, replicate}
+use Rattle.std.specs.Prelude.{ℕ, ◌+◌, ◌*◌, cond, List, [], ◌∷◌, ◌++◌, Option, Some, None, eqb, get_or, replicate}
 use Rattle.laws.specs.Lists.{blocks}
 use Rattle.laws.specs.Pieces.{part}
 use Rattle.rules.specs.declared.Switch.{Switch}
@@ -9,7 +9,6 @@ use Rattle.rules.specs.Cells.{switch, width, cells_of}
 use Rattle.rules.specs.Answers.{Answer, lists, number_of, is_done, exhaled_width, live}
 use Rattle.rules.specs.Calls.{Started, fresh_start, Outcome, slot, State}
 use Rattle.text.specs.declared.FirstLine.{FirstLine}
-use Rattle.text.specs.declared.FirstLine.TheVariants.{Numbers, Unreadable}
 use Rattle.characters.specs.Characters.{newline}
 use Rattle.text.specs.Lines.{cut, is_empty, first_line, is_slot_line, slot_line_words}
 use Rattle.printing.specs.Printed.{header_line, cell_line, refused_line, unreadable_line, held_line}
@@ -61,9 +60,9 @@ start_text f ls =
     cond (is_done f.answer) (header_line ++ slots_text (record { numbers = f.numbers; table = f.table }) ls) (refused_line (number_of f.answer))
 
 -- "N, S and table length on the first line": the fresh start is handed a table of that length. What stands in it is not read.
-unfoldable pub first_text : FirstLine → List (List ℕ) → List ℕ
-first_text Unreadable ls = unreadable_line
-first_text (Numbers n s k) ls = start_text (fresh_start (switch n s 0) (replicate (k * width) 0)) ls
+unfoldable pub first_text : Option FirstLine → List (List ℕ) → List ℕ
+first_text None ls = unreadable_line
+first_text (Some line) ls = start_text (fresh_start (switch line.ports line.speedup 0) (replicate (line.records * width) 0)) ls
 
 -- "and so is a missing first line"
 unfoldable pub opening_text : List (List ℕ) → List ℕ

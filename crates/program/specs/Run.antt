@@ -6,12 +6,13 @@ use Rattle.std.proofs.Math.Bool.{So}
 use Rattle.std.proofs.lemmas.Bool.{false≢true}
 use Rattle.text.specs.Lines.{cut}
 use Rattle.text.specs.Steps.{first_start}
-use Rattle.printing.specs.Prints.{Put, put_front}
+use Rattle.text.specs.declared.piece.Piece.{Piece}
+use Rattle.printing.specs.Prints.{Put}
 use Rattle.program.specs.declared.Program.{Program}
 use Rattle.program.specs.declared.Program.TheVariants.{First, Between, Within, Over}
 use Rattle.program.specs.Program.{lines_of, slots_text, program_text}
 use Rattle.program.specs.Lent.{end_room}
-use Rattle.program.specs.Coming.{opening_from, line_from, Stand, stand, coming_by, coming, closing, is_over, Goes}
+use Rattle.program.specs.Coming.{opening_from, line_from, Stand, stand, coming_by, coming, closing, is_over, unread, Goes}
 use Rattle.program.specs.Bytes.{opening_start}
 
 pub closing_is : (d : Program) (table arrivals : List ℕ) → coming_by d table arrivals [] ≡ closing d table
@@ -28,27 +29,28 @@ over_silent (Between x) table arrivals input h = absurd (false≢true h)
 over_silent (Within x r) table arrivals input h = absurd (false≢true h)
 over_silent Over table arrivals input h = refl
 
--- where a run stands: `read` are all bytes that came in, of which the last, `unread`, are still to be taken; `printed` are all that went out.
+-- where a run stands: `read` are all bytes that came in, of which the last, `left`, are still to be taken; `printed` are all that went out.
 -- Whatever comes in yet, the whole output begins with what is printed, and the rest is to come.
-pub record Stands (read printed : List ℕ) (s : Stand) (unread : List ℕ) : Type 0 where
-  pub so : (rest : List ℕ) → program_text (read ++ rest) ≡ printed ++ coming s (unread ++ rest)
+pub record Stands (read printed : List ℕ) (s : Stand) (left : List ℕ) : Type 0 where
+  pub so : (rest : List ℕ) → program_text (read ++ rest) ≡ printed ++ coming s (left ++ rest)
 
 -- how far one pass goes is left open. Whichever way it went, what it put and what is to come are the same, for every rest of the input.
-pub goes_settled : {m n i j k at p q : ℕ} {piece out mid new : List ℕ} {s a b : Stand}
-    (x : Goes m piece s i out at a j mid p) (y : Goes n piece s i out at b k new q) (rest : List ℕ)
-    → x.text ++ coming a (drop j piece ++ rest) ≡ y.text ++ coming b (drop k piece ++ rest)
+pub goes_settled : {m n : ℕ} {p q r : Piece} {out mid new : List ℕ} {s a b : Stand}
+    (x : Goes m p s out q a mid) (y : Goes n p s out r b new) (rest : List ℕ)
+    → x.text ++ coming a (unread q ++ rest) ≡ y.text ++ coming b (unread r ++ rest)
 goes_settled x y rest = sym (x.comes rest) ∙ y.comes rest
 
--- THE LAW of a run, by the contracts of `Program::start`, `pass`, `finish` and `is_over`: a run that writes out what each pass leaves at the front
--- of the buffer has printed, at the end of the input, all of `program_text` and nothing else; where the program is over it has done so before.
+-- THE LAW of a run, by the contracts of `Program::start`, `pass`, `finish` and `is_over`: a run that writes out what the passes leave in the
+-- vector has printed, at the end of the input, all of `program_text` and nothing else; where the program is over it has done so before. What is
+-- `written` went out and is in the vector no more.
 pub record RunLaw : Type 0 where
   pub begins : (d : Program) (table arrivals : List ℕ) → d ≡ First first_start → Stands [] [] (stand d table arrivals) []
   pub reads : (read printed : List ℕ) (s : Stand) → Stands read printed s [] → (piece : List ℕ) → Stands (read ++ piece) printed s piece
-  pub passes : (read printed piece out out' : List ℕ) (from next at : ℕ) (s s' : Stand) → Stands read printed s (drop from piece)
-      → Goes (length out) piece s from out 0 s' next out' at → Stands read (printed ++ take at out') s' (drop next piece)
-  pub ends : (read printed out out' : List ℕ) (at : ℕ) (s : Stand) → Stands read printed s [] → Put end_room out 0 (closing s.program s.table) out' at
-      → end_room ≤ length out → program_text read ≡ printed ++ take at out'
-  pub ends_early : (read printed unread : List ℕ) (s : Stand) → Stands read printed s unread → So (is_over s.program) → (rest : List ℕ)
+  pub passes : (read written out out' : List ℕ) (most : ℕ) (p p' : Piece) (s s' : Stand) → Stands read (written ++ out) s (unread p)
+      → Goes most p s out p' s' out' → Stands read (written ++ out') s' (unread p')
+  pub ends : (read written out out' : List ℕ) (s : Stand) → Stands read (written ++ out) s [] → Put end_room out (closing s.program s.table) out'
+      → program_text read ≡ written ++ out'
+  pub ends_early : (read printed left : List ℕ) (s : Stand) → Stands read printed s left → So (is_over s.program) → (rest : List ℕ)
       → program_text (read ++ rest) ≡ printed
 
 pub run_law : RunLaw
@@ -56,17 +58,19 @@ unfolding coming_by program_text
 run_law = record {
   begins = λ d table arrivals e. record { so = λ rest. rw e (sym (opening_start (lines_of rest))) };
   reads = λ read printed s x piece. record { so = λ rest. ap program_text (append_assoc read piece rest) ∙ x.so (piece ++ rest) };
-  passes = λ read printed piece out out' from next at s s' x g. record {
+  passes = λ read written out out' most p p' s s' x g. record {
     so = λ rest.
         x.so rest
-        ∙ ap (λ (l : List ℕ). printed ++ l) (g.comes rest)
-        ∙ ap (λ (l : List ℕ). printed ++ (l ++ coming s' (drop next piece ++ rest))) (sym (put_front g.put (omega (arith, g.put.within))))
-        ∙ sym (append_assoc printed (take at out') (coming s' (drop next piece ++ rest)));
+        ∙ ap (λ (l : List ℕ). (written ++ out) ++ l) (g.comes rest)
+        ∙ sym (append_assoc (written ++ out) g.text (coming s' (unread p' ++ rest)))
+        ∙ ap (λ (l : List ℕ). l ++ coming s' (unread p' ++ rest)) (append_assoc written out g.text ∙ ap (λ (l : List ℕ). written ++ l) (sym g.put.bytes));
   };
-  ends = λ read printed out out' at s x p r.
+  ends = λ read written out out' s x p.
       ap program_text (sym (append-nil read))
       ∙ x.so []
-      ∙ ap (λ (l : List ℕ). printed ++ l) (closing_is s.program s.table s.arrivals ∙ sym (put_front p (omega (arith, p.within, r))));
-  ends_early = λ read printed unread s x h rest.
-      x.so rest ∙ ap (λ (l : List ℕ). printed ++ l) (over_silent s.program s.table s.arrivals (unread ++ rest) h) ∙ append-nil printed;
+      ∙ ap (λ (l : List ℕ). (written ++ out) ++ l) (closing_is s.program s.table s.arrivals)
+      ∙ append_assoc written out (closing s.program s.table)
+      ∙ ap (λ (l : List ℕ). written ++ l) (sym p.bytes);
+  ends_early = λ read printed left s x h rest.
+      x.so rest ∙ ap (λ (l : List ℕ). printed ++ l) (over_silent s.program s.table s.arrivals (left ++ rest) h) ∙ append-nil printed;
 }

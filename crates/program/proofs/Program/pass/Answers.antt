@@ -1,13 +1,14 @@
--- Each turn takes what is next of the piece, and what was put is as long as the buffer at most.
+-- Each turn takes what is next of the piece, and what was put fits into the vector.
 use Rattle.std.proofs.Common.{arith}
-use Rattle.program.specs.Turns.{goes_then}
+use Rattle.printing.specs.Prints.{put_size}
+use Rattle.program.specs.Turns.{goes_none, goes_then}
 use Rattle.program.proofs.Program.pass.Goals as goal
 
-pub loop-next-preserved : goal.loop-next-preserved
-loop-next-preserved c =
-    let i = c.loop-next.invariant in
-    let g = c.advance-pass.ensures.goes in
+pub loop-piece-preserved : goal.loop-piece-preserved
+loop-piece-preserved g c =
+    let i = c.loop-piece.invariant in
+    let a = c.advance-program.ensures in
     record {
-      idle = λ q. absurd (omega (arith, i.goes.order, c.advance-pass.ensures.further, q));
-      goes = goes_then i.goes g (omega (arith, g.put.within, c.if-at-most.true, c.requires.lent.room));
+      idle = λ q. absurd (omega (arith, i.goes.order, a.further, q));
+      goes = goes_then i.goes a.goes (omega (arith, put_size a.goes.put));
     }

@@ -3,12 +3,11 @@ use Rattle.std.proofs.Common.{◌-◌, ◌≡◌, length}
 use Rattle.program.specs.Coming.{stand, Goes}
 use Rattle.program.proofs.Program.pass.Given as goal
 
-abbrev pub invariant-loop-next : goal.invariant-loop-next
-invariant-loop-next l = record {
-  idle : l.next ≡ l.from → l.at ≡ 0;
-  goes : Goes (length l.fn.out) l.piece (stand l.initial.program l.fn.table l.fn.arrivals) l.from l.fn.out 0
-      (stand l.program l.table l.arrivals) l.next l.out l.at;
+abbrev pub invariant-loop-piece : goal.invariant-loop-piece
+invariant-loop-piece g l = record {
+  idle : l.piece.next ≡ l.fn.piece.next → l.out.items ≡ l.fn.out.items;
+  goes : Goes g.row.N l.fn.piece (stand l.initial.program l.fn.table l.fn.arrivals) l.fn.out.items l.piece (stand l.program l.table l.arrivals) l.out.items;
 }
 
-abbrev pub decreases-loop-next : goal.decreases-loop-next
-decreases-loop-next l = length l.piece - l.next
+abbrev pub decreases-loop-piece : goal.decreases-loop-piece
+decreases-loop-piece g l = length l.piece.bytes.now - l.piece.next

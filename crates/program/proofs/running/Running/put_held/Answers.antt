@@ -1,10 +1,10 @@
 -- A table holds no more live cells than words, so their number fits.
 use Rattle.std.proofs.Common.{arith, take, length-take-le}
 use Rattle.program.specs.Turns.{live_small}
-use Rattle.program.proofs.Running.put_held.Goals as goal
+use Rattle.program.proofs.running.Running.put_held.Goals as goal
 
 pub overflow_cast-live : goal.overflow_cast-live
-overflow_cast-live c =
+overflow_cast-live g c =
     omega (
       arith,
       c.held-live.ensures,

@@ -2,14 +2,14 @@
 use Rattle.std.proofs.Common.{◌∙◌, ◌≡◌, true, arith, take, take_at, length-take-le}
 use Rattle.text.specs.Steps.{line_state_of, end_field, is_complete}
 use Rattle.program.specs.Turns.{turns_read}
-use Rattle.program.proofs.Running.end_line.Goals as goal
+use Rattle.program.proofs.running.Running.end_line.Goals as goal
 
 pub returns : goal.returns
-returns c =
+returns g c =
     let width = c.line_words-width.result in
     let line = take width c.args.arrivals.now in
-    let long = length-take-le width c.args.arrivals.now (omega (arith, c.line_words-width.ensures.1, c.requires.lent.line_long)) in
+    let long = length-take-le width c.args.arrivals.now (omega (arith, c.line_words-width.ensures.within, c.told-arrivals)) in
     let s = line_state_of c.args.reader line in
     let complete : is_complete (end_field s) ≡ true = cc in
-    rw (← c.line_words-width.ensures.0)
+    rw (← c.line_words-width.ensures.value)
     (turns_read _ s _ complete (take_at _ _ _ (c.finish.auto.words ∙ long) ∙ c.finish.ensures.left) c.slot.ensures)
