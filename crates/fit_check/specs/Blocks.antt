@@ -2,8 +2,9 @@
 -- Assumes nothing.
 use Rattle.std.specs.Prelude.{ℕ, ◌+◌, ◌-◌, ◌*◌, ◌≤◌, ◌<◌, ◌≡◌, not, List, eqb, length, get_or, take, drop}
 use Rattle.std.proofs.Common.{sym, ap, ◌∙◌, arith, length-drop, get_or-take, get_or-drop, length-take-le, eqb-true}
-use Rattle.std.specs.Int.Bits.{bit_and, and_zero_l}
-use Rattle.laws.specs.Bits.{or_to, or_to-none}
+use Rattle.std.specs.Int.Bits.{bit_and, bit_or, and_zero_l}
+use Rattle.std.specs.List.{fold}
+use Rattle.laws.specs.Bits.{fold_none}
 use Rattle.laws.specs.Tests.{No, to_so}
 use Rattle.laws.specs.Sifted.{Sifted, Block, past, blocks_between, blocks-behind}
 use Rattle.rules.specs.declared.Cell.{Cell}
@@ -37,7 +38,7 @@ free_lacks ws k bits b h j l = ap (λ (c : Cell). bit_and c.place bits) (h j l) 
 abbrev pub block_part : List ℕ → ℕ → List ℕ
 block_part ws k = take (k * width + block * width - k * width) (drop (k * width) ws)
 
-module _ (ws : List ℕ) (k : ℕ) (l : k + block ≤ records ws) (none : or_to (block_part ws k) (length (block_part ws k)) ≡ 0) where
+module _ (ws : List ℕ) (k : ℕ) (l : k + block ≤ records ws) (none : fold bit_or 0 (block_part ws k) ≡ 0) where
   long : length (block_part ws k) ≡ block * width
   long =
       length-take-le (k * width + block * width - k * width) (drop (k * width) ws) (rw (length-drop (k * width) ws) (omega (arith, in_words ws l)))
@@ -46,7 +47,7 @@ module _ (ws : List ℕ) (k : ℕ) (l : k + block ≤ records ws) (none : or_to 
   zero_word : (i : ℕ) → i < block * width → ◌≡◌ {A = ℕ} (get_or ws (k * width + i) 0) 0
   zero_word i m =
       sym (get_or-take (k * width + block * width - k * width) (drop (k * width) ws) i 0 (omega arith) ∙ get_or-drop (k * width) ws i 0)
-      ∙ or_to-none (block_part ws k) _ none i (rw long m)
+      ∙ (fold_none (block_part ws k) 0 none).1 i (rw long m)
 
   pub zeros-free : (j : ℕ) → j < block → Free ws k j
   zeros-free j h = nth-cells_of ws (k + j) (omega arith) ∙ cell_ext (cell_at ws (k + j)) free (λ r b. field_at ws (k + j) r b ∙ word r b ∙ sym (free-field r b))

@@ -7,6 +7,8 @@
 #![tactic(auto)]
 
 ghost use Rattle.std.specs.Prelude.{◌≡◌, not, ℕ, ◌+◌, ◌-◌, ◌*◌, ◌/◌, ◌<◌, ◌≤◌, eqb, length};
+ghost use Rattle.std.specs.List.{fold};
+ghost use Rattle.std.specs.Int.Bits.{bit_or};
 ghost use Rattle.laws.specs.Bits.{or_to};
 ghost use Rattle.laws.specs.Sifted.{Sifted};
 ghost use Rattle.rules.specs.Cells.{width, records, cells_of, same_entry, is_alone, fit};
@@ -110,13 +112,9 @@ fn is_alone_by(table: &[u32], k: usize, marks: &mut Marks) -> bool
 
 // The or of some words: 0 only where every word is.
 fn or_of(words: &[u32]) -> u32
-    ensures { result ≡ or_to words.now (length words.now) }
+    ensures { result ≡ fold bit_or 0 words.now }
 {
-    let mut all = 0;
-    for word in words {
-        all |= word;
-    }
-    all
+    words.iter().fold(0, |all, word| all | word)
 }
 
 // The or of the words of the block that begins at record k: 0 only where its records are free.

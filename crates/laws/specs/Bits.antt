@@ -3,7 +3,8 @@
 use Prim.Native.Nat.{ℕ, zero, suc, ◌+◌, ◌<◌}
 use Rattle.std.proofs.Math.Path.{◌≡◌, refl}
 use Rattle.std.proofs.Common.{sym, ap, ◌∙◌, arith}
-use Rattle.std.specs.Prelude.{List, get_or}
+use Rattle.std.specs.Prelude.{List, [], ◌∷◌, length, get_or}
+use Rattle.std.specs.List.{fold}
 use Rattle.std.specs.Int.Bits.{bit_or, or_add_and, or_zero_l, bit_and, and_self}
 use Rattle.std.proofs.lemmas.Nat.{and_le_l, and_le_r}
 use Rattle.laws.specs.Walk.{over, over_more, below_suc}
@@ -33,3 +34,15 @@ module _ (ws : List ℕ) where
   unfolding or_to over
   none-or_to zero h = refl
   none-or_to (suc n) h = rw (none-or_to n (λ i l. h i (omega arith)), h n (omega arith)) (or_zero_l 0)
+
+-- The or of all words of a list, from a on: 0 just where a and each of them is.
+pub fold_none : (ws : List ℕ) (a : ℕ) → fold bit_or a ws ≡ 0 → (a ≡ 0) × ((i : ℕ) → i < length ws → ◌≡◌ {A = ℕ} (get_or ws i 0) 0)
+fold_none [] a e = (e, λ i l. absurd (omega arith))
+fold_none (w ∷ ws) a e =
+    let h = fold_none ws (bit_or a w) e in
+    let z = or_none a w h.0 in
+    (z.0, each z.1 h.1)
+  where
+    each : w ≡ 0 → ((i : ℕ) → i < length ws → ◌≡◌ {A = ℕ} (get_or ws i 0) 0) → (i : ℕ) → i < length (w ∷ ws) → ◌≡◌ {A = ℕ} (get_or (w ∷ ws) i 0) 0
+    each z h zero l = z
+    each z h (suc i) l = h i (omega arith)
