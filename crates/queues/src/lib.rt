@@ -18,7 +18,7 @@ const PAIRS: usize = PORT_COUNT * PORT_COUNT;
 
 // For each pair its head, and the top of its chain, its highest record; for each record the next lower one of its chain; for each output the inputs
 // that have a cell for it; and the outputs with such an input, and maybe others. A record is named by its number + 1, and 0 names none.
-#[derive(Clone, Copy, Debug)]
+#[derive(Debug, Drop)]
 pub struct PairQueues {
     heads: [u16; PAIRS],
     tops: [u16; PAIRS],
