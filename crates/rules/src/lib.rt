@@ -100,11 +100,14 @@ impl Cell {
     }
 
     // Whether the cell stands before another by slot and then input.
-    #[tactic(auto, unfolding(crate::specs::Cells::older))]
+    #[tactic(auto, using(std::proofs::lemmas::Bool::Decides::nat_tests), unfolding(crate::specs::Cells::older, laws::specs::Order::lower))]
     pub fn is_older_than(self, other: Cell) -> bool
         ensures { result ≡ older self other }
     {
-        (self.entered, self.input) < (other.entered, other.input)
+        if self.entered == other.entered {
+            return self.input < other.input;
+        }
+        self.entered < other.entered
     }
 }
 
