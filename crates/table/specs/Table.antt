@@ -1,9 +1,8 @@
 -- What a store leaves in the lent words, where no record is free, and how many are live.
 -- Assumes nothing.
-use Rattle.std.specs.Prelude.{ℕ, ◌+◌, ◌*◌, ◌<◌, ◌≤◌, ◌≡◌, Bool, not, List, ◌++◌, set, take, drop, Some, None}
-use Rattle.std.proofs.Common.{sym, ◌∙◌, append_assoc, arith, add-one, length-set, drop-drop}
+use Rattle.std.specs.Prelude.{ℕ, ◌+◌, ◌<◌, ◌≤◌, ◌≡◌, Bool, not, List, set, Some, None}
+use Rattle.std.proofs.Common.{◌∙◌, arith, add-one, length-set}
 use Rattle.std.proofs.Math.Bool.{So}
-use Rattle.std.proofs.lemmas.List.Edits.{sets-eq}
 use Rattle.std.proofs.Math.ListN.{length}
 use Rattle.laws.specs.Tests.{No}
 use Rattle.laws.specs.Walk.{below_suc}
@@ -11,11 +10,11 @@ use Rattle.laws.specs.Count.{bit, count, count_zero, count_suc, count_le}
 use Rattle.laws.specs.Least.{lowest_hit}
 use Rattle.laws.proofs.Least.{lowest_nothing}
 use Rattle.rules.specs.declared.Cell.{Cell}
-use Rattle.rules.specs.Cells.{nth, width, fields, is_free, is_live, records, cells_of, older}
+use Rattle.rules.specs.Cells.{nth, is_free, is_live, records, cells_of, older}
 use Rattle.rules.specs.Answers.{live}
 use Rattle.rules.specs.Phases.{lowest_free}
-use Rattle.words.specs.Words.{store, length-cells_of, same-records, with_records, length_with, in_words}
-use Rattle.words.proofs.Words.{cells_of_with, store_with}
+use Rattle.words.specs.Words.{length-cells_of, same-records, with_records, length_with}
+use Rattle.words.proofs.Words.{cells_of_with}
 
 -- the words with c as record k
 abbrev pub stored : List ℕ → ℕ → Cell → List ℕ
@@ -34,17 +33,6 @@ module _ (ws : List ℕ) (k : ℕ) (c : Cell) where
 
   pub cells_of-stored : cells_of (stored ws k c) ≡ set (cells_of ws) k c
   cells_of-stored = cells_of_with ws (set (cells_of ws) k c) many
-
--- a record's fields in their places are a store
-store-parts : (ws : List ℕ) (k : ℕ) (c : Cell) → k * width + width ≤ length ws
-    → store ws k c ≡ take (k * width) ws ++ (fields c ++ drop (k * width + width) ws)
-store-parts ws k c l = sets-eq (fields c) ws (k * width) l ∙ append_assoc (take (k * width) ws) (fields c) (drop (k * width + width) ws)
-
-pub spliced : (ws xs : List ℕ) (k n : ℕ) (c : Cell) → k < records ws → xs ≡ fields c → n ≡ width
-    → take (k * width) ws ++ (xs ++ drop n (drop (k * width) ws)) ≡ stored ws k c
-spliced ws xs k n c h e q =
-    let inside : k * width + width ≤ length ws = omega (arith, in_words ws {n = k + 1} (omega arith)) in
-    rw (e, q, drop-drop) (sym (store-parts ws k c inside) ∙ store_with ws k h c)
 
 -- the numbers below `from` are records, and none is free
 pub record NoneBelow (ws : List ℕ) (from : ℕ) : Type 0 where
