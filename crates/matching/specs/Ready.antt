@@ -1,14 +1,13 @@
 -- What the calls of a transfer phase ask for.
 -- Assumes nothing.
-use Rattle.std.specs.Prelude.{ℕ, ◌<◌, ◌≤◌, ◌≡◌, List}
+use Rattle.std.specs.Prelude.{ℕ, ◌<◌, ◌≤◌, ◌≡◌, List, length}
 use Rattle.rules.specs.declared.Cell.{Cell}
 use Rattle.rules.specs.Cells.{most_ports, most_records, nth, placed, records, cells_of}
 use Rattle.words.specs.Words.{length-cells_of}
 use Rattle.ideal.specs.InPorts.{InPorts, in_ports_wider}
 use Rattle.table.specs.Table.{stored, records-stored, cells_of-stored}
 use Rattle.queues.specs.declared.PairQueues.{PairQueues}
-use Rattle.queues.specs.Queues.{Ports, All, Queues, Lineable, Stale, head_of, head_set}
-use Rattle.matching.specs.declared.LinedTable.{LinedTable}
+use Rattle.queues.specs.Queues.{Ports, All, Heads, Queues, Lineable, Stale, head_of, head_set}
 use Rattle.queues.specs.Heads.{queues_take, renewed}
 
 -- no more ports and records than there can be, and the waiting cells' ports are those of the switch
@@ -20,11 +19,15 @@ pub record Orderly (n : ℕ) (table : List ℕ) : Type 0 where
 pub orderly_lineable : {n : ℕ} {table : List ℕ} → Orderly n table → Lineable table
 orderly_lineable o = record { few = o.few; ports = in_ports_wider o.small o.inside }
 
--- the queues are the table's
-abbrev pub LinedUp : LinedTable → Type 0
-LinedUp l = Queues All (cells_of l.table.now) l.queues.now
+-- the queues know each head of the table, and whom the waiting cells are for
+pub record LinedUp (cs : List Cell) (qs : PairQueues) : Type 0 where
+  pub ports : InPorts most_ports cs
+  pub heads : Heads All cs (length cs) qs
 
--- and the queues of an orderly table are the table's
+pub lined_up : {cs : List Cell} {qs : PairQueues} → Queues All cs qs → LinedUp cs qs
+lined_up q = record { ports = q.ports; heads = q.heads }
+
+-- and the queues are the table's
 pub record Ready (n : ℕ) (table : List ℕ) (qs : PairQueues) : Type 0 where
   pub orderly : Orderly n table
   pub queues : Queues All (cells_of table) qs

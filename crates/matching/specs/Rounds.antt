@@ -37,7 +37,7 @@ use Rattle.queues.specs.Queues.{waits_for, waits→, →waits, head_below, head_
 use Rattle.table.specs.Table.{older_at, cells_of-stored}
 use Rattle.queues.specs.Heads.{head_below_lem}
 use Rattle.matching.specs.declared.Taken.{Taken}
-use Rattle.matching.specs.Ready.{Orderly, Takeable}
+use Rattle.matching.specs.Ready.{LinedUp, Orderly, Takeable}
 use Rattle.matching.specs.Picking.{waits_among, candidate, first_candidate, Takes, Shows, Picked}
 use Rattle.matching.specs.Picking.{picks, picks_more, picks_all, stops, open_waits}
 use Rattle.matching.specs.Picking.{finds, cell_same, length-shown, shown_long, shows-add, shows-none}
@@ -115,7 +115,7 @@ module _ (cs : List Cell) (i o : ℕ) where
   head_found (Some j) h w = (j, h.0, h.1)
   head_found None h w = absurd (false≢true w)
 
-module _ {cs : List Cell} {qs : PairQueues} (q : Queues All cs qs) where
+module _ {cs : List Cell} {qs : PairQueues} (q : LinedUp cs qs) where
   -- what the queues say of a pair
   pub head_read : (i o : ℕ) → i < most_ports → o < most_ports → named (head_word qs i o) ≡ head_of cs i o
   head_read i o l m = ap named (q.heads.head i o l m tt) ∙ named_name (head_of cs i o)
@@ -242,7 +242,7 @@ module _ (ins : ℕ → Bool) (cs : List Cell) where
   all_outputs s f = walk_least (λ k. waits_among ins (has s) (nth cs k)) _ cs (λ k l h. (among→ ins (has s) (nth cs k) h).2) f
 
 -- every sender that is not taken was visited
-pub all_inputs : {cs : List Cell} {qs : PairQueues} → Queues All cs qs → (ins o left : ℕ) → o < most_ports → Except (senders qs o) ins left
+pub all_inputs : {cs : List Cell} {qs : PairQueues} → LinedUp cs qs → (ins o left : ℕ) → o < most_ports → Except (senders qs o) ins left
     → {x : Option ℕ} → ForOutput (has ins) o cs (has left) x → x ≡ first_for (has ins) o cs
 unfolding first_for
 all_inputs {cs} q ins o left m e f = walk_least (λ k. waits_on (has ins) o (nth cs k)) _ cs (λ k l h. left-has q ins o left m e k l h) f
@@ -298,7 +298,7 @@ pub record Lows (r : List ℕ) (q : Taken) (cs : List Cell) (s : ℕ) : Type 0 w
   pub all : LowestOf (λ o. is_servable (has q.inputs.mask) o cs) (λ o. reading_for r (output_of o)) (λ o. not (has q.outputs.mask o)) (has s) low
 
 -- every output that is wanted and not taken was visited
-pub all_wanted : {r : List ℕ} {q : Taken} {cs : List Cell} {qs : PairQueues} {left : ℕ} {l : Tied} → Queues All cs qs → Except (wanted qs) q.outputs.mask left
+pub all_wanted : {r : List ℕ} {q : Taken} {cs : List Cell} {qs : PairQueues} {left : ℕ} {l : Tied} → LinedUp cs qs → Except (wanted qs) q.outputs.mask left
     → Lowering r (has q.inputs.mask) cs (has left) l → Lows r q cs l.ports.mask
 all_wanted {r} {q} {cs} {qs} {left} {l} w e h = record {
   low = l.reading;

@@ -51,13 +51,13 @@ struct Candidate {
 struct LinedTable<'a> {
     table: &'a [u32],
     queues: &'a PairQueues,
+    ghost lined_up: { LinedUp (cells_of table.now) queues.now },
 }
 
 impl LinedTable<'_> {
     // Of the waiting cells for an output, at inputs that are not taken, the oldest: a look at the heads.
     fn first_for(self, inputs: PortSet, o: Output) -> Option<usize>
-        requires o_lt_most_ports { o.0 < most_ports }
-        requires lined_up { LinedUp self }
+        requires { o.0 < most_ports }
         ensures { result ≡ first_for (has inputs.mask) o.0 (cells_of self.entry.table.now) }
     {
         let mut found = None;
@@ -69,8 +69,7 @@ impl LinedTable<'_> {
 
     // Whether there is such a cell.
     fn is_servable(self, inputs: PortSet, o: Output) -> bool
-        requires o_lt_most_ports { o.0 < most_ports }
-        requires lined_up { LinedUp self }
+        requires { o.0 < most_ports }
         ensures { result ≡ is_servable (has inputs.mask) o.0 (cells_of self.entry.table.now) }
     {
         !self.queues.senders(o).except(inputs).is_empty()
@@ -78,7 +77,6 @@ impl LinedTable<'_> {
 
     // Of the outputs that are not taken and can be served, those with the lowest reading.
     fn lowest_readings(self, r: Reading, taken: Taken) -> PortSet
-        requires { LinedUp self }
         ensures { Lows r.counts taken (cells_of self.entry.table.now) result.mask }
     {
         let mut lowest = Tied::none();
@@ -92,7 +90,6 @@ impl LinedTable<'_> {
 
     // Of the waiting cells for some outputs, at inputs that are not taken, the oldest.
     fn first_among(self, inputs: PortSet, outputs: PortSet) -> Option<usize>
-        requires { LinedUp self }
         ensures { result ≡ first_among (has inputs.mask) (has outputs.mask) (cells_of self.entry.table.now) }
     {
         let mut found = None;
@@ -106,8 +103,7 @@ impl LinedTable<'_> {
     // The readings stay through a phase, and what can be served only gets less: the outputs that had the lowest reading have it as long as one of
     // them can be served. Only where none can are others looked for.
     fn first_candidate(self, r: Reading, taken: Taken, lows: PortSet) -> Candidate
-        requires lined_up { LinedUp self }
-        requires kept { Kept r.counts taken (cells_of self.table.now) lows.mask }
+        requires { Kept r.counts taken (cells_of self.table.now) lows.mask }
         ensures first { result.found ≡ first_candidate r.counts (has taken.inputs.mask) (has taken.outputs.mask) (cells_of self.entry.table.now) }
         ensures kept_next { Kept r.counts taken (cells_of self.entry.table.now) result.lows.mask }
     {
@@ -138,7 +134,7 @@ fn take(
     let c = table::cell_at(table, k);
     table::set_place(table, k, READY);
     queues.renew(table, c.input, c.output);
-    served[c.output.0 as usize] = c.input.0;
+    served[usize::from(c.output)] = c.input.0;
     taken.with(c)
 }
 

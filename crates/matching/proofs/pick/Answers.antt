@@ -7,9 +7,6 @@ pub rounds-init : goal.rounds-init
 rounds-init c =
     rw c.default-lows.ensures (rounds_none _ _ _ _ _ _ c.requires.queues c.default-taken.ensures.0 c.default-taken.ensures.1 (omega arith))
 
-pub first_candidate-candidate-requires : goal.first_candidate-candidate-requires
-first_candidate-candidate-requires c = record { lined_up = c.rounds.invariant.queues; kept = c.rounds.invariant.kept }
-
 pub take-taken-requires : goal.take-taken-requires
 take-taken-requires c = rounds_take c.rounds.invariant c.first_candidate-candidate.ensures.first c.in-Some.is c.requires.orderly
 

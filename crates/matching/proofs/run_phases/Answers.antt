@@ -27,8 +27,5 @@ loop-preserved c =
     let same = same_len_mid _ _ c.loop.matches _ c.transfer-moved.auto.words in
     phases_more c.loop.invariant c.loop-test.true c.transfer-moved.ensures _ same
 
-pub returns-clause-table_after : goal.returns-clause-table_after
-returns-clause-table_after c = (phases_all c.loop.invariant (omega (arith, c.loop.invariant.few))).0
-
 pub returns-clause-matches_after : goal.returns-clause-matches_after
 returns-clause-matches_after c = (phases_all c.loop.invariant (omega (arith, c.loop.invariant.few))).1

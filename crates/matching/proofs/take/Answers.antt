@@ -1,6 +1,4 @@
 -- Each part is what the call for it says, of the cell that was read.
-use Rattle.std.proofs.Common.{ap, set}
-use Rattle.rules.specs.declared.Cell.{Cell}
 use Rattle.matching.specs.Ready.{taken_stale, taken_queues}
 use Rattle.matching.proofs.take.Goals as goal
 
@@ -15,5 +13,5 @@ returns c =
       queues = taken_queues c.requires e c.set_place.ensures c.renew.ensures;
       inputs = rw (← e) c.with.ensures.inputs;
       outputs = rw (← e) c.with.ensures.outputs;
-      served = ap (λ (d : Cell). set c.args.served.now d.output.0 d.input.0) e;
+      served = cc;
     }

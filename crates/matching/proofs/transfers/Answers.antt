@@ -3,9 +3,6 @@ use Rattle.queues.specs.Lining.{lined_up_lem}
 use Rattle.matching.specs.Ready.{orderly_lineable}
 use Rattle.matching.proofs.transfers.Goals as goal
 
-pub line_up-queues-requires : goal.line_up-queues-requires
-line_up-queues-requires c = orderly_lineable c.requires.orderly
-
 pub run_phases-requires-clause-ready : goal.run_phases-requires-clause-ready
 run_phases-requires-clause-ready c =
     let o = c.requires.orderly in

@@ -1,5 +1,5 @@
 -- Each output that is visited is a taken one: there is a word for it, and what is served there is an input.
-use Rattle.std.proofs.Common.{◌≡◌, ℕ, suc, ◌<◌, Bool, List, refl, length, get_or, set, rules, arith, length-set}
+use Rattle.std.proofs.Common.{◌≡◌, ℕ, suc, ◌<◌, Bool, List, length, get_or, set, rules, arith, length-set}
 use Rattle.laws.specs.SetWalk.{also, Filled, walk_none, filled_nobody, filled_visit}
 use Rattle.ports.specs.PortLaws.{walk_visit, walk_done}
 use Rattle.matching.proofs.write_words.Goals as goal
@@ -16,19 +16,6 @@ loop-o-init c =
       long = c.fill.ensures.len;
       walk = rw (c.fill.ensures.after (λ y h. search rules), whole) (walk_none (filled_nobody _ (length c.args.words.now)));
     }
-
-pub bounds-served-at : goal.bounds-served-at
-bounds-served-at c = (c.in-Some.ensures {u = tt}).steps.lowest.small
-
-pub overflow_add-words : goal.overflow_add-words
-overflow_add-words c =
-    let taken = c.loop-o.invariant.walk.part _ (c.in-Some.ensures {u = tt}).steps.lowest.inside in
-    omega (arith, c.requires.inputs _ taken)
-
-pub bounds-words-at : goal.bounds-words-at
-bounds-words-at c =
-    let taken = c.loop-o.invariant.walk.part _ (c.in-Some.ensures {u = tt}).steps.lowest.inside in
-    omega (arith, c.requires.below _ taken)
 
 pub loop-o-preserved : goal.loop-o-preserved
 loop-o-preserved c =

@@ -12,9 +12,6 @@ loop-o-init c =
     let e : c.into_iter-o-iterator.result.left.mask ≡ c.args.outputs.mask = cc in
     rw e (walk_none first-nobody)
 
-pub first_for-requires : goal.first_for-requires
-first_for-requires c = record { o_lt_most_ports = (c.in-Some.ensures {u = tt}).steps.lowest.small; lined_up = c.requires }
-
 pub older_finding-found-requires-clause-a_below : goal.older_finding-found-requires-clause-a_below
 older_finding-found-requires-clause-a_below c =
     rw (length-cells_of c.args.self.table.now) at (walk_below _ _ (cells_of c.args.self.table.now) c.loop-o.invariant.holds)

@@ -7,10 +7,10 @@ use Rattle.matching.proofs.LinedTable.first_candidate.Goals as goal
 pub returns-then-is_some-clause-first : goal.returns-then-is_some-clause-first
 returns-then-is_some-clause-first c =
     let e = excepted c.except-kept.ensures in
-    kept_first (kept_left e c.requires.kept) (except_out e) _ c.first_among-found.ensures (sym c.is_some.ensures ∙ c.if-is_some.true)
+    kept_first (kept_left e c.requires) (except_out e) _ c.first_among-found.ensures (sym c.is_some.ensures ∙ c.if-is_some.true)
 
 pub returns-then-is_some-clause-kept_next : goal.returns-then-is_some-clause-kept_next
-returns-then-is_some-clause-kept_next c = kept_left (excepted c.except-kept.ensures) c.requires.kept
+returns-then-is_some-clause-kept_next c = kept_left (excepted c.except-kept.ensures) c.requires
 
 pub returns-clause-first : goal.returns-clause-first
 returns-clause-first c = c.first_among.ensures ∙ lows_first c.lowest_readings-next.ensures

@@ -7,4 +7,4 @@ use Rattle.matching.proofs.LinedTable.is_servable.Goals as goal
 pub returns : goal.returns
 returns c =
     rw c.is_empty.ensures
-    (servable_test c.requires.lined_up _ _ _ c.requires.o_lt_most_ports (rw c.senders.ensures at (excepted c.except.ensures)) (omega arith))
+    (servable_test c.args.self.lined_up _ _ _ c.requires (rw c.senders.ensures at (excepted c.except.ensures)) (omega arith))

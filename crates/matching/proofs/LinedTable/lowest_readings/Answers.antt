@@ -13,9 +13,6 @@ loop-o-init c =
     let e : c.into_iter-o-iterator.result.left.mask ≡ except_ports (wanted c.args.self.queues.now) c.args.taken.outputs.mask = cc in
     rw e (walk_none (lowering_none c.none-lowest.ensures.0))
 
-pub is_servable-requires : goal.is_servable-requires
-is_servable-requires c = record { o_lt_most_ports = (c.in-Some.ensures {u = tt}).steps.lowest.small; lined_up = c.requires }
-
 pub loop-o-preserved-then-is_servable : goal.loop-o-preserved-then-is_servable
 unfolding reading_for
 loop-o-preserved-then-is_servable c =
@@ -29,4 +26,4 @@ loop-o-preserved c =
     (λ u h. lowering_skip h _ (sym c.is_servable.ensures ∙ c.if-is_servable.false))
 
 pub returns : goal.returns
-returns c = all_wanted c.requires (excepted refl) (walk_done (c.in-None.ensures {u = tt}).steps c.loop-o.invariant)
+returns c = all_wanted c.args.self.lined_up (excepted refl) (walk_done (c.in-None.ensures {u = tt}).steps c.loop-o.invariant)
