@@ -143,7 +143,11 @@ fn count_arriving(arrivals: &[u32], ports: u32) -> usize
     requires { ports * arrival_width ≤ length arrivals.now }
     ensures { result ≡ arriving ports arrivals.now }
 {
-    (0..ports as usize)
-        .filter(|i| arrivals[*i * ARRIVAL_WORDS] != 0)
-        .count()
+    let mut found = 0;
+    for i in 0..ports as usize {
+        if arrivals[i * ARRIVAL_WORDS] != 0 {
+            found += 1;
+        }
+    }
+    found
 }
