@@ -6,7 +6,7 @@ use Rattle.laws.specs.Tests.{No}
 use Rattle.rules.specs.declared.Switch.{Switch}
 use Rattle.rules.specs.declared.Refusal.{Refusal}
 use Rattle.rules.specs.declared.Refusal.TheVariants.{BadPorts, BadSpeedup, BadRecords, Unfit, BadLists, NoSuchOutput, ClockSpent, NoRoom}
-use Rattle.rules.specs.Answers.{Answer, number_of, is_done}
+use Rattle.rules.specs.Answers.{number_of, is_done}
 use Rattle.printing.specs.Printed.{refused_line}
 use Rattle.program.specs.Program.{slot_text, answer_text}
 

@@ -1,8 +1,8 @@
 -- Slot lines, and the turns that the program's functions take: a text put into the buffer, and the stand that prints the rest.
 -- Assumes nothing.
-use Rattle.std.specs.Prelude.{ℕ, ◌+◌, ◌*◌, ◌≤◌, ◌<◌, ◌≡◌, refl, Bool, true, false, cond, eqb, length, get_or, take, drop, Ok, Err}
+use Rattle.std.specs.Prelude.{ℕ, ◌+◌, ◌*◌, ◌≤◌, ◌<◌, ◌≡◌, refl, Bool, true, false, cond, eqb, length, get_or, take, drop}
 use Rattle.std.proofs.Math.Path.{sym, ap}
-use Rattle.std.proofs.Common.{subst, ◌∙◌, arith, mul-le-mul, take_at}
+use Rattle.std.proofs.Common.{◌∙◌, arith, mul-le-mul, take_at}
 use Rattle.std.proofs.Math.Bool.{So}
 use mathlib.Core.List.{List, [], ◌∷◌, ◌++◌, append_assoc, append-nil}
 use Rattle.laws.specs.Tests.{No, cond_true, cond_false}
@@ -10,10 +10,8 @@ use Rattle.laws.specs.Count.{count_le}
 use Rattle.laws.specs.Lists.{blocks_zero, blocks_more}
 use Rattle.laws.specs.Pieces.{part, part_rest, drop_next}
 use Rattle.rules.specs.declared.Switch.{Switch}
-use Rattle.rules.specs.declared.Refusal.{Refusal}
-use Rattle.rules.specs.declared.Refusal.TheVariants.{BadPorts, BadSpeedup, BadRecords, Unfit, BadLists, NoSuchOutput, ClockSpent, NoRoom}
 use Rattle.rules.specs.Cells.{most_ports, most_speedup, nth, is_live, records, cells_of}
-use Rattle.rules.specs.Answers.{Lists, lists, number_of, is_done, live, slot_answer}
+use Rattle.rules.specs.Answers.{Lists, lists, is_done, live, slot_answer}
 use Rattle.rules.specs.Calls.{State, Outcome, slot, slot_runs, slot_refused}
 use Rattle.words.specs.Words.{length-cells_of}
 use Rattle.characters.specs.Characters.{newline}
@@ -22,7 +20,6 @@ use Rattle.text.specs.declared.SlotReader.{SlotReader}
 use Rattle.text.specs.declared.piece.Piece.{Piece}
 use Rattle.text.specs.Steps.{LineState, line_state_of, end_field, is_complete, first_step}
 use Rattle.text.specs.Parts.{LineTaken}
-use Rattle.printing.specs.Printed.{refused_line}
 use Rattle.printing.specs.Prints.{Put, put_none, put_then, put_within, put_fits}
 use Rattle.program.specs.declared.running.Running.{Running}
 use Rattle.program.specs.declared.Program.{Program}

@@ -98,7 +98,9 @@ impl Program {
             Program::Between(running) => {
                 running.advance(SlotReader::start(), piece, table, arrivals, out)
             }
-            Program::Within(running, reader) => running.advance(reader, piece, table, arrivals, out),
+            Program::Within(running, reader) => running.advance(
+                reader, piece, table, arrivals, out,
+            ),
             Program::Over => {
                 piece.next = piece.bytes.len();
                 Program::Over

@@ -7,9 +7,7 @@ ghost use Rattle.program.specs.Lent.{lent_table_words, lent_words};
 use crate::outcome::put_outcome;
 use crate::{LINE_WORDS, MOST_LENT, Program, TABLE_WORDS};
 use arrayvec::ArrayVec;
-use rules::{
-    ARRIVAL_WORDS, EXHALED_WORDS, MOST_SPEEDUP, PORT_COUNT, RECORD_WORDS, Slot, Switch,
-};
+use rules::{ARRIVAL_WORDS, EXHALED_WORDS, MOST_SPEEDUP, PORT_COUNT, RECORD_WORDS, Slot, Switch};
 use switch::Crossbar;
 use text::{FirstLine, Piece, SlotReader};
 
@@ -145,7 +143,11 @@ impl Running {
 
     // The last two lines where a line was not read.
     #[tactic(auto, using(printing::specs::Prints::put_then), unfolding(crate::specs::Program::end_text))]
-    pub(crate) fn put_end<const N: usize>(self, table: &[u32; TABLE_WORDS], out: &mut ArrayVec<u8, N>)
+    pub(crate) fn put_end<const N: usize>(
+        self,
+        table: &[u32; TABLE_WORDS],
+        out: &mut ArrayVec<u8, N>,
+    )
         requires { array_vec_len out.old + end_room ≤ N }
         ensures { Put end_room out.old.items (end_text (state_of self table.now)) out.new.items }
     {
@@ -154,7 +156,11 @@ impl Running {
     }
 
     #[tactic(auto, unfolding(crate::specs::Program::held_text))]
-    pub(crate) fn put_held<const N: usize>(self, table: &[u32; TABLE_WORDS], out: &mut ArrayVec<u8, N>)
+    pub(crate) fn put_held<const N: usize>(
+        self,
+        table: &[u32; TABLE_WORDS],
+        out: &mut ArrayVec<u8, N>,
+    )
         requires { array_vec_len out.old + line_bytes ≤ N }
         ensures { Put line_bytes out.old.items (held_text (state_of self table.now)) out.new.items }
     {

@@ -2,23 +2,23 @@
 // What is printed for which input is settled in `program`. Here the bytes come in and go out, in large pieces.
 #![tactic(auto)]
 
-ghost use Rattle.program.specs.Lent.{Inside, Room, Lent, PieceLent};
-
-use program::Program;
+use arrayvec::ArrayVec;
+use program::{LINE_WORDS, Program, TABLE_WORDS};
 use std::io::{Read, Write};
+use text::Piece;
 
 // How many bytes a read takes, at most, and how many are written at a time.
 const PIECE_BYTES: usize = 65536;
 
 fn main(rt: HostRuntime) {
-    let mut piece = [0u8; PIECE_BYTES];
-    let mut out = [0u8; PIECE_BYTES];
-    let mut table = [0u32; program::TABLE_WORDS];
-    let mut arrivals = [0u32; program::LINE_WORDS];
+    let mut bytes = [0; PIECE_BYTES];
+    let mut out = ArrayVec::new();
+    let mut table = [0; TABLE_WORDS];
+    let mut arrivals = [0; LINE_WORDS];
     run(
         &mut rt.stdin(),
         &mut rt.stdout(),
-        &mut piece,
+        &mut bytes,
         &mut out,
         &mut table,
         &mut arrivals,
@@ -30,21 +30,19 @@ fn main(rt: HostRuntime) {
 fn run<R: Read, W: Write>(
     input: &mut R,
     output: &mut W,
-    piece: &mut [u8],
-    out: &mut [u8],
-    table: &mut [u32],
-    arrivals: &mut [u32],
-)
-    requires { Lent table.old arrivals.old out.old 0 }
-{
+    bytes: &mut [u8; PIECE_BYTES],
+    out: &mut ArrayVec<u8, PIECE_BYTES>,
+    table: &mut [u32; TABLE_WORDS],
+    arrivals: &mut [u32; LINE_WORDS],
+) {
     let mut program = Program::start();
     for _ in 0..u64::MAX {
-        let n = input.read(piece).unwrap_or(0);
+        let n = input.read(bytes).unwrap_or(0);
         if n == 0 {
             end(output, program, table, out);
             return;
         }
-        program = take(output, program, &piece[..n], out, table, arrivals);
+        program = take(output, program, &bytes[..n], out, table, arrivals);
         if program.is_over() {
             return;
         }
@@ -52,37 +50,34 @@ fn run<R: Read, W: Write>(
 }
 
 // The end of the input: the last lines.
-fn end<W: Write>(output: &mut W, program: Program, table: &[u32], out: &mut [u8])
-    requires inside { Inside program }
-    requires room { Room table.now out.old 0 }
-{
-    let at = program.finish(table, out, 0);
-    let _ = output.write_all(&out[..at]);
+fn end<W: Write>(
+    output: &mut W,
+    program: Program,
+    table: &[u32; TABLE_WORDS],
+    out: &mut ArrayVec<u8, PIECE_BYTES>,
+) {
+    out.clear();
+    program.finish(table, out);
+    let _ = output.write_all(out);
 }
 
 // Takes a piece of the input, and writes the buffer out where it is full and at the piece's end. A failed write ends the run.
 fn take<W: Write>(
     output: &mut W,
     start: Program,
-    piece: &[u8],
-    out: &mut [u8],
-    table: &mut [u32],
-    arrivals: &mut [u32],
-) -> Program
-    requires { PieceLent start piece.now 0 table.old arrivals.old out.old 0 }
-    ensures { Inside result }
-{
+    bytes: &[u8],
+    out: &mut ArrayVec<u8, PIECE_BYTES>,
+    table: &mut [u32; TABLE_WORDS],
+    arrivals: &mut [u32; LINE_WORDS],
+) -> Program {
     let mut program = start;
-    let mut next = 0;
-    while next < piece.len() {
-        let pass = program.pass(piece, next, table, arrivals, out);
-        let turn = pass.turn;
-        let at = turn.at;
-        if output.write_all(&out[..at]).is_err() {
+    let mut piece = Piece { bytes, next: 0 };
+    while piece.next < piece.bytes.len() {
+        out.clear();
+        program = program.pass(&mut piece, table, arrivals, out);
+        if output.write_all(out).is_err() {
             return Program::Over;
         }
-        program = turn.program;
-        next = pass.next;
     }
     program
 }

@@ -1,5 +1,5 @@
 -- A byte is a step of the reader; at the newline the line is what the reader says.
-use Rattle.std.proofs.Common.{◌∙◌, sym, arith, ne_eqb}
+use Rattle.std.proofs.Common.{sym, arith, ne_eqb}
 use Rattle.characters.specs.Characters.{newline}
 use Rattle.text.specs.Lines.{unreadable}
 use Rattle.program.specs.Program.{first_text}

@@ -1,7 +1,7 @@
 -- Each turn takes what is next of the piece, and what was put fits into the vector.
 use Rattle.std.proofs.Common.{arith}
 use Rattle.printing.specs.Prints.{put_size}
-use Rattle.program.specs.Turns.{goes_none, goes_then}
+use Rattle.program.specs.Turns.{goes_then}
 use Rattle.program.proofs.Program.pass.Goals as goal
 
 pub loop-piece-preserved : goal.loop-piece-preserved

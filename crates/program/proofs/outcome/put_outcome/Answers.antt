@@ -1,5 +1,4 @@
 -- What is printed is what the answer asks for.
-use Rattle.std.proofs.Common.{◌≡◌}
 use Rattle.program.specs.Answered.{done_text}
 use Rattle.program.proofs.outcome.put_outcome.Goals as goal
 

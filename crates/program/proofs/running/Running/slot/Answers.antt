@@ -1,5 +1,5 @@
 -- The slot is that of `slot_on`, what is put is `line_text`, and what the switch has then is `line_after`.
-use Rattle.std.proofs.Common.{◌∙◌, ◌≡◌, ◌≤◌, ◌*◌, refl, arith, take, length-take-le, take_at, replicate}
+use Rattle.std.proofs.Common.{◌∙◌, ◌*◌, refl, arith, take, length-take-le, replicate}
 use Rattle.laws.specs.Lists.{take-replicate}
 use Rattle.rules.specs.Answers.{exhaled_width}
 use Rattle.program.specs.declared.running.Running.{Running}
