@@ -70,12 +70,7 @@ fn is_alone(table: &[u32], k: usize) -> bool
     ensures { result ≡ is_alone (cells_of table.now) k }
 {
     let c = table::cell_at(table, k);
-    for j in 0..k {
-        if is_same_entry(c, table::cell_at(table, j)) {
-            return false;
-        }
-    }
-    true
+    !(0..k).any(|j| is_same_entry(c, table::cell_at(table, j)))
 }
 
 // Sets of inputs, one for the slots with the same remainder: a live cell is marked in its slot's by its input.
