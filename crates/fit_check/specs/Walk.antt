@@ -15,7 +15,6 @@ use Rattle.words.specs.Words.{length-cells_of, nth-cells_of}
 use Rattle.words.specs.Behind.{free-blank}
 use Rattle.ports.specs.declared.PortSet.{PortSet}
 use Rattle.sift.specs.Stretch.{live_bits, Listed}
-use Rattle.fit_check.specs.declared.Survey.{Survey}
 use Rattle.fit_check.specs.Sound.{stray_free, stray_not-blank, no_stray, Strays}
 use Rattle.fit_check.specs.Marks.{Seen, seen_none, Told, free_alone, seen_free}
 
@@ -66,9 +65,9 @@ module _ (sound : Cell → Bool) (cs : List Cell) (ms : List PortSet) where
 -- The walk over a stretch --------------------------------------------------------------------------
 
 -- what a first look at the stretch from record k to record `end` gives
-pub record Surveyed (ws : List ℕ) (k end : ℕ) (r : Survey) : Type 0 where
-  pub listed : Listed ws k (end - k) live_bits r.live.list r.live.count
-  pub strays : Strays (cells_of ws) k end r.strays
+pub record Surveyed (ws : List ℕ) (k end : ℕ) (list : List ℕ) (m r : ℕ) : Type 0 where
+  pub listed : Listed ws k (end - k) live_bits list m
+  pub strays : Strays (cells_of ws) k end r
 
 -- what holds of the records below x, where x is in the stretch
 pub record FitWithin (sound : Cell → Bool) (cs : List Cell) (k end : ℕ) (ms : List PortSet) (x : ℕ) : Type 0 where

@@ -70,12 +70,7 @@ fn is_alone(table: &[u32], k: usize) -> bool
     ensures { result ≡ is_alone (cells_of table.now) k }
 {
     let c = table::cell_at(table, k);
-    for j in 0..k {
-        if is_same_entry(c, table::cell_at(table, j)) {
-            return false;
-        }
-    }
-    true
+    !(0..k).any(|j| is_same_entry(c, table::cell_at(table, j)))
 }
 
 // Sets of inputs, one for the slots with the same remainder: a live cell is marked in its slot's by its input.
@@ -171,28 +166,15 @@ fn strays_within(table: &[u32], k: usize, size: usize, blocks: &Numbers<BLOCKS>)
     all | strays_among(table, k + size / BLOCK * BLOCK, k + size)
 }
 
-// What a first look at a stretch tells: its live records, and what stands behind the places of the free ones.
-#[derive(Drop)]
-struct Survey {
-    live: Numbers<STRETCH>,
-    strays: u32,
-}
-
-impl Survey {
-    // Of the stretch from record k to record `end`, whose records are numbered from k on.
-    fn of(table: &[u32], k: usize, end: usize) -> Survey
-        requires { Stretch table.now k end }
-        ensures { Surveyed table.now k end result }
-    {
-        let size = end - k;
-        let blocks = touched_blocks(table, k, size / BLOCK);
-        let mut live = Numbers::none();
-        sift::sift_within(table, k, size, sift::LIVE, &blocks, &mut live);
-        Survey {
-            live,
-            strays: strays_within(table, k, size, &blocks),
-        }
-    }
+// Lists the live records of the stretch from record k to record `end`, numbered from k on; gives what stands behind the places of its free ones.
+fn list_live(table: &[u32], k: usize, end: usize, live: &mut Numbers<STRETCH>) -> u32
+    requires { Stretch table.now k end }
+    ensures { Surveyed table.now k end live.new.list live.new.count result }
+{
+    let size = end - k;
+    let blocks = touched_blocks(table, k, size / BLOCK);
+    sift::sift_within(table, k, size, sift::LIVE, &blocks, live);
+    strays_within(table, k, size, &blocks)
 }
 
 // Whether record k is sound and alone, as those below it are; it is marked if it is.
@@ -210,11 +192,12 @@ fn is_stretch_fit(table: &[u32], k: usize, end: usize, bounds: Bounds, marks: &m
     requires fit_so_far { FitSoFar (sound_by bounds) (cells_of table.now) marks.old.sets k }
     ensures { FitTo (sound_by bounds) (cells_of table.now) marks.new.sets end result }
 {
-    let found = Survey::of(table, k, end);
-    if found.strays != 0 {
+    let mut live = Numbers::none();
+    let strays = list_live(table, k, end, &mut live);
+    if strays != 0 {
         return false;
     }
-    for x in found.live.as_slice() {
+    for x in live.as_slice() {
         if !is_record_fit(table, k + usize::from(*x), bounds, marks) {
             return false;
         }

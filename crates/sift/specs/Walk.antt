@@ -1,8 +1,10 @@
 -- A walk over the records whose places have some of the bits that are asked for: what a turn of it gives and leaves, and what a caller makes of that.
 -- Assumes nothing.
-use Rattle.std.specs.Prelude.{ℕ, ◌+◌, ◌-◌, ◌≤◌, ◌<◌, ◌≡◌, List, Option, Some, None}
+use Rattle.std.specs.Prelude.{ℕ, ◌+◌, ◌-◌, ◌≤◌, ◌<◌, ◌≡◌, Bool, List, Option, Some, None}
 use Rattle.std.proofs.Common.{arith}
 use Rattle.std.specs.Int.Bits.{bit_and}
+use Rattle.std.proofs.Math.Bool.{So}
+use Rattle.laws.specs.Tests.{No}
 use Rattle.laws.specs.Walk.{walk_on}
 use Rattle.laws.specs.Sifted.{past}
 use Rattle.rules.specs.Cells.{nth, records, cells_of}
@@ -33,6 +35,19 @@ pub record Next (ws : List ℕ) (bits at k : ℕ) : Type 0 where
 pub record Last (ws : List ℕ) (bits at : ℕ) : Type 0 where
   pub inside : at ≤ records ws
   pub rest : (x : ℕ) → at ≤ x → x < records ws → Bare ws bits x
+
+-- the records from `at` up to `on` have none
+pub record Passed (ws : List ℕ) (bits at on : ℕ) : Type 0 where
+  pub forth : at ≤ on
+  pub bare : (x : ℕ) → at ≤ x → x < on → Bare ws bits x
+
+-- the walk has come from s to t, where r tells whether the stretch of t lists a record that was not given yet
+pub record Sought (s : Records) (r : Bool) (t : Records) : Type 0 where
+  pub words : t.table.now ≡ s.table.now
+  pub bits_are : t.bits ≡ s.bits
+  pub passed : Passed s.table.now s.bits (reached s) (reached t)
+  pub found : So r → t.turn < t.listed.count
+  pub none : No r → Last s.table.now s.bits (reached s)
 
 pub record Turn (s : Records) (k : ℕ) (t : Records) : Type 0 where
   pub next : Next s.table.now s.bits (reached s) k

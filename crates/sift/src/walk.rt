@@ -20,7 +20,7 @@ pub struct Records<'a> {
 }
 
 impl<'a> Records<'a> {
-    ghost use Rattle.sift.specs.Walk.{Starts};
+    ghost use Rattle.sift.specs.Walk.{Starts, Sought};
 
     // The records with one of `bits`.
     pub fn with_bits(table: &'a [u32], bits: u32) -> Records<'a>
@@ -35,6 +35,32 @@ impl<'a> Records<'a> {
             turn: 0,
         }
     }
+
+    // Whether a record is left, of the stretch at hand or of one behind it, which is the one at hand then.
+    #[inline(always)]
+    fn is_any_left(&mut self) -> bool
+        ensures { Sought self.old result self.new }
+    {
+        self.turn < self.listed.count || self.go_on()
+    }
+
+    // Goes on to the next stretch that lists a record; whether there is one. It stays a call, so that a turn of the walk is short code.
+    #[inline(never)]
+    fn go_on(&mut self) -> bool
+        ensures { Sought self.old result self.new }
+    {
+        let n = self.table.len() / rules::RECORD_WORDS;
+        while self.turn == self.listed.count {
+            if self.end == n {
+                return false;
+            }
+            self.from = self.end;
+            self.end = stretch_end(self.from, n);
+            sift_records(self.table, self.from, self.end, self.bits, &mut self.listed);
+            self.turn = 0;
+        }
+        true
+    }
 }
 
 impl<'a> Iterator for Records<'a> {
@@ -48,16 +74,10 @@ impl<'a> Iterator for Records<'a> {
 
     ghost remaining = { λ s. at_most (records s.table.now - reached s) };
 
+    #[inline(always)]
     fn next(&mut self) -> Option<usize> {
-        let n = self.table.len() / rules::RECORD_WORDS;
-        while self.turn == self.listed.count {
-            if self.end == n {
-                return None;
-            }
-            self.from = self.end;
-            self.end = stretch_end(self.from, n);
-            sift_records(self.table, self.from, self.end, self.bits, &mut self.listed);
-            self.turn = 0;
+        if !self.is_any_left() {
+            return None;
         }
         let k = self.from + usize::from(self.listed.list[self.turn]);
         self.turn += 1;

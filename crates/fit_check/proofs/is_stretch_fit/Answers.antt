@@ -26,33 +26,33 @@ module _ (bounds : Bounds) {ws : List ℕ} {k end r : ℕ} {ms : List PortSet} {
   ends : m ≤ j → FitTo (sound_by bounds) (cells_of ws) ms end true
   ends l = fit_told _ _ _ ((pass_ends p keeps l).below (omega arith))
 
-pub returns-then-found-ne0 : goal.returns-then-found-ne0
-returns-then-found-ne0 c =
-    stray_unfit _ (sound_by-free c.args.bounds) _ _ _ c.of-found.ensures.strays c.requires.stretch.inside c.if-found-ne0.true
+pub returns-then-strays-ne0 : goal.returns-then-strays-ne0
+returns-then-strays-ne0 c =
+    stray_unfit _ (sound_by-free c.args.bounds) _ _ _ c.list_live-strays.ensures.strays c.requires.stretch.inside c.if-strays-ne0.true
 
 pub loop-x-init : goal.loop-x-init
 loop-x-init c =
-    pass_begins c.requires.stretch (listed_front c.of-found.ensures.listed c.as_slice-x-items.ensures) (fit_begins c.requires.fit_so_far)
+    pass_begins c.requires.stretch (listed_front c.list_live-strays.ensures.listed c.as_slice-x-items.ensures) (fit_begins c.requires.fit_so_far)
 
 pub loop-x-preserved : goal.loop-x-preserved
 loop-x-preserved c =
-    let t = turn c.args.bounds c.of-found.ensures.strays c.if-found-ne0.false c.type_inv.table c.loop-x.invariant c.loop-x-test.true in
+    let t = turn c.args.bounds c.list_live-strays.ensures.strays c.if-strays-ne0.false c.type_inv.table c.loop-x.invariant c.loop-x-test.true in
     pass_more c.loop-x.invariant c.loop-x-test.true (fit_goes_on (omega arith) (rw c.from.ensures at (c.is_record_fit.ensures.fits c.if-not-is_record_fit.false)))
 
 pub overflow_add-k : goal.overflow_add-k
 overflow_add-k c =
-    let t = turn c.args.bounds c.of-found.ensures.strays c.if-found-ne0.false c.type_inv.table c.loop-x.invariant c.loop-x-test.true in
+    let t = turn c.args.bounds c.list_live-strays.ensures.strays c.if-strays-ne0.false c.type_inv.table c.loop-x.invariant c.loop-x-test.true in
     record { fits = omega arith }
 
 pub is_record_fit-requires-clause-k_bound : goal.is_record_fit-requires-clause-k_bound
 is_record_fit-requires-clause-k_bound c =
-    let t = turn c.args.bounds c.of-found.ensures.strays c.if-found-ne0.false c.type_inv.table c.loop-x.invariant c.loop-x-test.true in
+    let t = turn c.args.bounds c.list_live-strays.ensures.strays c.if-strays-ne0.false c.type_inv.table c.loop-x.invariant c.loop-x-test.true in
     rw c.from.ensures t.inside
 
 pub is_record_fit-requires-clause-fit_so_far : goal.is_record_fit-requires-clause-fit_so_far
 is_record_fit-requires-clause-fit_so_far c =
-    let t = turn c.args.bounds c.of-found.ensures.strays c.if-found-ne0.false c.type_inv.table c.loop-x.invariant c.loop-x-test.true in
+    let t = turn c.args.bounds c.list_live-strays.ensures.strays c.if-strays-ne0.false c.type_inv.table c.loop-x.invariant c.loop-x-test.true in
     rw c.from.ensures (t.below.below (omega arith))
 
 pub returns : goal.returns
-returns c = ends c.args.bounds c.of-found.ensures.strays c.if-found-ne0.false c.type_inv.table c.loop-x.invariant c.loop-x-test.false
+returns c = ends c.args.bounds c.list_live-strays.ensures.strays c.if-strays-ne0.false c.type_inv.table c.loop-x.invariant c.loop-x-test.false

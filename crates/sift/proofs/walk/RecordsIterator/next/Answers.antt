@@ -1,60 +1,26 @@
--- A stretch of which all listed records were given is passed; the next one begins where it ends.
-use Rattle.std.proofs.Common.{refl, ap, ◌∙◌, arith, add-one, add-zero}
+-- The next record listed is given; each turn leaves fewer ahead.
+use Rattle.std.proofs.Common.{ℕ, List, length, ap, arith, add-one}
 use Rattle.rules.specs.Cells.{records}
-use Rattle.sift.specs.Stretch.{stretch_from}
 use Rattle.sift.specs.Walk.{reached}
-use Rattle.sift.proofs.Passing.{passed_none, passed_on, passed_next, passed_last, passed_as, next_as, next_listed, end_passed, turn_less}
+use Rattle.sift.proofs.Passing.{passed_next, next_as, next_listed, turn_less}
 use Rattle.sift.proofs.walk.RecordsIterator.next.Goals as goal
 
-pub loop-self-init : goal.loop-self-init
-unfolding records
-loop-self-init c = record { words = refl; bits_are = refl; all = refl; passed = passed_none _ _ _ }
-
-pub returns-then-self-n-clause-steps : goal.returns-then-self-n-clause-steps
-returns-then-self-n-clause-steps c =
-    let i = c.loop-self.invariant in
-    passed_last (passed_on i.passed (passed_as (end_passed c.loop-self.self (omega arith)) i.words i.bits_are)) (c.if-self-n.true ∙ i.all ∙ ap records i.words)
-
-pub stretch_end-self-requires : goal.stretch_end-self-requires
-stretch_end-self-requires c = omega (arith, c.loop-self.self.stretch.inside, c.loop-self.invariant.all)
-
-pub sift_records-requires : goal.sift_records-requires
-sift_records-requires c = stretch_from (omega (arith, c.loop-self.self.stretch.inside, c.loop-self.invariant.all)) c.loop-self.invariant.all c.stretch_end-self.ensures
-
-pub invariant_of-self : goal.invariant_of-self
-invariant_of-self c = record {
-  stretch = stretch_from (omega (arith, c.loop-self.self.stretch.inside, c.loop-self.invariant.all)) c.loop-self.invariant.all c.stretch_end-self.ensures;
-  are_listed = c.sift_records.ensures;
-  turned = omega arith;
-}
-
-pub loop-self-preserved : goal.loop-self-preserved
-unfolding reached
-loop-self-preserved c =
-    let s = c.loop-self.self in
-    let i = c.loop-self.invariant in
-    record {
-      words = i.words;
-      bits_are = i.bits_are;
-      all = i.all;
-      passed = rw (add-zero s.end) (passed_on i.passed (passed_as (end_passed s (omega arith)) i.words i.bits_are));
-    }
-
 pub overflow_add-k : goal.overflow_add-k
+unfolding records
 overflow_add-k c =
-    let n = next_listed c.loop-self.self (omega (arith, c.loop-self.self.turned)) in
-    record { fits = omega (arith, n.inside, c.from.ensures) }
+    let n = next_listed c.is_any_left.new.self (c.is_any_left.ensures.found c.if-not-is_any_left.false) in
+    record { fits = omega (arith, n.inside, c.from.ensures, ap (λ (ws : List ℕ). length ws) c.is_any_left.ensures.words) }
 
 pub returns-clause-steps : goal.returns-clause-steps
 unfolding reached
 returns-clause-steps c =
-    let s = c.loop-self.self in
-    let i = c.loop-self.invariant in
-    let n = next_as i.words i.bits_are (next_listed s (omega (arith, s.turned))) in
+    let s = c.is_any_left.new.self in
+    let d = c.is_any_left.ensures in
+    let n = next_as d.words d.bits_are (next_listed s (d.found c.if-not-is_any_left.false)) in
     record {
-      next = rw c.from.ensures (passed_next i.passed n);
-      words = i.words;
-      bits_are = i.bits_are;
+      next = rw c.from.ensures (passed_next d.passed n);
+      words = d.words;
+      bits_are = d.bits_are;
       on = rw (add-one s.turn) (omega (arith, c.from.ensures));
     }
 

@@ -1,9 +1,8 @@
 -- The records up to where the walk has come to were passed.
 use Rattle.std.proofs.Common.{◌≡◌, ◌-◌}
 use Rattle.rules.specs.Cells.{records}
-use Rattle.sift.specs.Walk.{reached}
-use Rattle.sift.proofs.Passing.{Passed}
-use Rattle.sift.proofs.walk.RecordsIterator.next.Given as goal
+use Rattle.sift.specs.Walk.{Passed, reached}
+use Rattle.sift.proofs.walk.Records.go_on.Given as goal
 
 abbrev pub invariant-loop-self : goal.invariant-loop-self
 invariant-loop-self l = record {
