@@ -165,10 +165,10 @@ fn pick(table: &mut [u32], queues: &mut PairQueues, r: Reading, ports: u32) -> M
         served: [0; PORT_COUNT],
     };
     let mut lows = PortSet::default();
-    for _ in 0..ports {
+    'rounds: for _ in 0..ports {
         let candidate = LinedTable { table, queues }.first_candidate(r, picked.taken, lows);
         let Some(k) = candidate.found else {
-            break;
+            break 'rounds;
         };
         lows = candidate.lows;
         picked.take(table, queues, k);

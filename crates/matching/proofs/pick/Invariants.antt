@@ -3,5 +3,5 @@
 use Rattle.matching.specs.Rounds.{AfterRounds}
 use Rattle.matching.proofs.pick.Given as goal
 
-abbrev pub invariant-loop : goal.invariant-loop
-invariant-loop l = AfterRounds l.ports l.r.counts l.fn.table l.table l.queues l.picked.taken l.picked.served l.lows.mask l.counter
+abbrev pub invariant-rounds : goal.invariant-rounds
+invariant-rounds l = AfterRounds l.ports l.r.counts l.fn.table l.table l.queues l.picked.taken l.picked.served l.lows.mask l.counter

@@ -1,4 +1,5 @@
--- The waiting cells are lined up; a phase writes its row of words in its place; where one moves nothing, the table stays and the words behind its row become 0.
+-- The waiting cells are lined up. A phase writes its row of words in its place; where one moves nothing, the table stays and the words behind its
+-- row become 0.
 use Rattle.std.proofs.Common.{refl, rules, arith}
 use borrow.Rule.Slice.PartMut.{same_len_mid}
 use Rattle.queues.specs.Lining.{lined_up_lem}

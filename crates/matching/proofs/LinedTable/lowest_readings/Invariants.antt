@@ -8,5 +8,5 @@ use Rattle.matching.proofs.LinedTable.lowest_readings.Given as goal
 
 abbrev pub invariant-loop-port : goal.invariant-loop-port
 invariant-loop-port l =
-    Walked (Lowering l.r.counts (has l.taken.inputs.mask) (cells_of l.self.table.now)) (has (except_ports (wanted l.self.queues.now) l.taken.outputs.mask))
-    (has l.port-iterator.left.mask) l.lowest
+    Walked (Lowering l.r.counts (has l.taken.inputs.mask) (cells_of l.self.table.now))
+    (has (except_ports (wanted l.self.queues.now) l.taken.outputs.mask)) (has l.port-iterator.left.mask) l.lowest
