@@ -166,7 +166,8 @@ module _ {ws : List ℕ} {p : ℕ → Bool} {us : List ℕ} {q : Taken} {ns : Li
   unfolding first_candidate first_open
   finds r =
       ap (λ (v : List Cell). first_candidate r (has q.inputs.mask) (has q.outputs.mask) v) shown_cells
-      ∙ ap (least (λ k. candidate (has q.inputs.mask) (has q.outputs.mask) (nth (moved p cs) k)) (λ i j. before r (nth (moved p cs) i) (nth (moved p cs) j)))
+      ∙ ap
+      (least (λ k. candidate (has q.inputs.mask) (has q.outputs.mask) (nth (moved p cs) k)) (λ i j. before r (nth (moved p cs) i) (nth (moved p cs) j)))
       (length_moved p cs)
       ∙ least-same _ (is_open cs p) _ (λ i j. before r (nth cs i) (nth cs j)) (length cs)
       (λ k l. candidate-same (has q.inputs.mask) _ (has q.outputs.mask) _ s.inputs s.outputs (nth (moved p cs) k) ∙ open_moved cs p k l)
@@ -214,8 +215,8 @@ added_shown m a r t u h e here up down i =
     (λ x. h.others i (eqb-false i a x) ∙ e i ∙ same_test (t i) (u i) (up i) (λ y. ⊎_elim (λ z. z) (λ z. absurd (eqb-false i a x z)) (down i y)))
     (passes (eqb i a))
 
-module _ {ws : List ℕ} {p : ℕ → Bool} {us vs : List ℕ} {qs : PairQueues} {q next : Taken} {ns ms : List ℕ} (s : Shows ws p us q ns) (k : ℕ) (l : k < length (cells_of ws))
-    (o : So (is_open (cells_of ws) p k)) (t : Takes us q ns k vs qs next ms) where
+module _ {ws : List ℕ} {p : ℕ → Bool} {us vs : List ℕ} {qs : PairQueues} {q next : Taken} {ns ms : List ℕ} (s : Shows ws p us q ns) (k : ℕ)
+    (l : k < length (cells_of ws)) (o : So (is_open (cells_of ws) p k)) (t : Takes us q ns k vs qs next ms) where
   abbrev zs : List Cell
   zs = cells_of ws
 

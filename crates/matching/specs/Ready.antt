@@ -24,9 +24,6 @@ pub record LinedUp (cs : List Cell) (qs : PairQueues) : Type 0 where
   pub ports : InPorts most_ports cs
   pub heads : Heads All cs (length cs) qs
 
-pub lined_up : {cs : List Cell} {qs : PairQueues} → Queues All cs qs → LinedUp cs qs
-lined_up q = record { ports = q.ports; heads = q.heads }
-
 -- and the queues are the table's
 pub record Ready (n : ℕ) (table : List ℕ) (qs : PairQueues) : Type 0 where
   pub orderly : Orderly n table

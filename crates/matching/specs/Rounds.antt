@@ -271,7 +271,8 @@ module _ {r : List ℕ} {ins : ℕ → Bool} {cs : List Cell} where
     unfolding lowered
     lowering_visit c x e = go (eqb l.ports.mask 0) (ltb x l.reading) (ltb l.reading x) refl refl refl
       where
-        fresh : ((q : ℕ) → No (has l.ports.mask q)) ⊎ (x < l.reading) → Lowering r ins cs (also v o) (record { ports = set_of (with_port 0 o); reading = x })
+        fresh : ((q : ℕ) → No (has l.ports.mask q)) ⊎ (x < l.reading)
+            → Lowering r ins cs (also v o) (record { ports = set_of (with_port 0 o); reading = x })
         fresh less =
             let a = added {r = with_port 0 o} refl in
             record {
@@ -281,7 +282,8 @@ module _ {r : List ℕ} {ins : ℕ → Bool} {cs : List Cell} where
 
         go : (a b d : Bool) → eqb l.ports.mask 0 ≡ a → ltb x l.reading ≡ b → ltb l.reading x ≡ d
             → Lowering r ins cs (also v o) (cond a (record { ports = set_of (with_port 0 o); reading = x })
-            (cond b (record { ports = set_of (with_port 0 o); reading = x }) (cond d l (record { ports = set_of (with_port l.ports.mask o); reading = l.reading }))))
+            (cond b (record { ports = set_of (with_port 0 o); reading = x })
+            (cond d l (record { ports = set_of (with_port l.ports.mask o); reading = l.reading }))))
         go true b d i j k = fresh (inl (λ q. ap (λ (m : ℕ). has m q) (eqb-true _ _ i) ∙ has-none q))
         go false true d i j k = fresh (inr (ltb-true _ _ j))
         go false false true i j k =
@@ -298,8 +300,8 @@ pub record Lows (r : List ℕ) (q : Taken) (cs : List Cell) (s : ℕ) : Type 0 w
   pub all : LowestOf (λ o. is_servable (has q.inputs.mask) o cs) (λ o. reading_for r (output_of o)) (λ o. not (has q.outputs.mask o)) (has s) low
 
 -- every output that is wanted and not taken was visited
-pub all_wanted : {r : List ℕ} {q : Taken} {cs : List Cell} {qs : PairQueues} {left : ℕ} {l : Tied} → LinedUp cs qs → Except (wanted qs) q.outputs.mask left
-    → Lowering r (has q.inputs.mask) cs (has left) l → Lows r q cs l.ports.mask
+pub all_wanted : {r : List ℕ} {q : Taken} {cs : List Cell} {qs : PairQueues} {left : ℕ} {l : Tied} → LinedUp cs qs
+    → Except (wanted qs) q.outputs.mask left → Lowering r (has q.inputs.mask) cs (has left) l → Lows r q cs l.ports.mask
 all_wanted {r} {q} {cs} {qs} {left} {l} w e h = record {
   low = l.reading;
   all = record {
@@ -348,7 +350,8 @@ kept_left {r} {q} {cs} {s} {left} e h = record {
 }
 
 -- a cell is taken: the readings stay, and what can be served gets less
-module _ {us vs : List ℕ} {qs : PairQueues} {q next : Taken} {ns ms : List ℕ} {k : ℕ} (t : Takes us q ns k vs qs next ms) (l : k < length (cells_of us)) where
+module _ {us vs : List ℕ} {qs : PairQueues} {q next : Taken} {ns ms : List ℕ} {k : ℕ} (t : Takes us q ns k vs qs next ms)
+    (l : k < length (cells_of us)) where
   cells : cells_of vs ≡ set (cells_of us) k (placed 2 (nth (cells_of us) k))
   cells = ap cells_of t.table ∙ cells_of-stored us k (placed 2 (nth (cells_of us) k))
 
@@ -455,8 +458,8 @@ pub record AfterRounds (n : ℕ) (r ws us : List ℕ) (qs : PairQueues) (q : Tak
   pub queues : Queues All (cells_of us) qs
   pub kept : Kept r q (cells_of us) lows
 
-pub rounds_none : (n : ℕ) (r ws : List ℕ) (qs : PairQueues) (q : Taken) (ns : List ℕ) → Queues All (cells_of ws) qs → q.inputs.mask ≡ 0 → q.outputs.mask ≡ 0 → length ns ≡ most_ports
-    → AfterRounds n r ws ws qs q ns 0 0
+pub rounds_none : (n : ℕ) (r ws : List ℕ) (qs : PairQueues) (q : Taken) (ns : List ℕ) → Queues All (cells_of ws) qs → q.inputs.mask ≡ 0
+    → q.outputs.mask ≡ 0 → length ns ≡ most_ports → AfterRounds n r ws ws qs q ns 0 0
 rounds_none n r ws qs q ns h i o l =
     record { rounds = omega arith; shows = rw (over_zero _ _) (shows-none ws q ns i o l); queues = h; kept = kept_none r q (cells_of ws) }
 
@@ -497,8 +500,8 @@ module _ {n : ℕ} {r ws us : List ℕ} {qs : PairQueues} {q : Taken} {ns : List
             };
           }
 
-      pub rounds_more : {vs : List ℕ} {qs' : PairQueues} {next : Taken} {ms : List ℕ} {lows' : ℕ} → i < n → Kept r q (cells_of us) lows' → Takes us q ns k vs qs' next ms
-          → AfterRounds n r ws vs qs' next ms lows' (i + 1)
+      pub rounds_more : {vs : List ℕ} {qs' : PairQueues} {next : Taken} {ms : List ℕ} {lows' : ℕ} → i < n → Kept r q (cells_of us) lows'
+          → Takes us q ns k vs qs' next ms → AfterRounds n r ws vs qs' next ms lows' (i + 1)
       rounds_more l h t =
           record {
             rounds = omega arith;

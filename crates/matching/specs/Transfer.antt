@@ -45,7 +45,8 @@ module _ {n : ℕ} {ws : List ℕ} (order : Orderly n ws) (r : List ℕ) {us : L
   cs = cells_of ws
 
   -- the record of a taken output
-  serves : (o : ℕ) → So (has q.outputs.mask o) → (k : ℕ) × (k < length cs) × So (match_of n r cs k) × ((nth cs k).output.0 ≡ o) × ((nth cs k).place ≡ 1)
+  serves : (o : ℕ) → So (has q.outputs.mask o)
+      → (k : ℕ) × (k < length cs) × So (match_of n r cs k) × ((nth cs k).output.0 ≡ o) × ((nth cs k).place ≡ 1)
   serves o x =
       let d = taken→ cs (match_of n r cs) (output_of o) (sym (s.outputs o) ∙ x) in
       (d.0, d.1, d.2, d.3, (match_waits n r cs d.0 d.2).1)
@@ -88,7 +89,8 @@ module _ {n : ℕ} {ws : List ℕ} (order : Orderly n ws) (r : List ℕ) {us : L
   shows_moves =
       count-above (has q.outputs.mask) n mask_ports order.small
       (λ o a b x. let d = serves o x in omega (arith, d.3, order.inside.outputs d.0 d.1 d.4))
-      ∙ count_same (has q.outputs.mask) (λ o. is_taken_output (match_of n r cs) cs (output_of o)) n (λ o l x. sym (s.outputs o) ∙ x) (λ o l x. s.outputs o ∙ x)
+      ∙ count_same (has q.outputs.mask) (λ o. is_taken_output (match_of n r cs) cs (output_of o)) n (λ o l x. sym (s.outputs o) ∙ x)
+      (λ o l x. s.outputs o ∙ x)
 
 -- one phase: the table, its queues, the words and the number of moves
 pub record Transferred (n : ℕ) (r table table' : List ℕ) (qs : PairQueues) (ws : List ℕ) (q : ℕ) : Type 0 where
@@ -97,7 +99,8 @@ pub record Transferred (n : ℕ) (r table table' : List ℕ) (qs : PairQueues) (
   pub matched : ws ≡ match_words n (match_of n r (cells_of table)) (cells_of table)
   pub moved : q ≡ moves n (match_of n r (cells_of table)) (cells_of table)
 
-pub transferred_long : {n : ℕ} {r table table' : List ℕ} {qs : PairQueues} {ws : List ℕ} {q : ℕ} → Transferred n r table table' qs ws q → length table' ≡ length table
+pub transferred_long : {n : ℕ} {r table table' : List ℕ} {qs : PairQueues} {ws : List ℕ} {q : ℕ} → Transferred n r table table' qs ws q
+    → length table' ≡ length table
 unfolding phase
 transferred_long {n} {r} {table} t =
     with_long table (phase n r (cells_of table)) t.words (length_moved (match_of n r (cells_of table)) (cells_of table))

@@ -181,7 +181,8 @@ pub record AfterPhases (n s : ℕ) (r ws us : List ℕ) (qs : PairQueues) (ms : 
   pub long : length ms ≡ s * n
   pub rows : take (j * n) ms ≡ blocks j (row_of n r (cells_of ws))
 
-pub phases-none : (n s : ℕ) (r ws : List ℕ) (qs : PairQueues) (ms : List ℕ) → Queues All (cells_of ws) qs → length ms ≡ s * n → AfterPhases n s r ws ws qs ms 0 0
+pub phases-none : (n s : ℕ) (r ws : List ℕ) (qs : PairQueues) (ms : List ℕ) → Queues All (cells_of ws) qs → length ms ≡ s * n
+    → AfterPhases n s r ws ws qs ms 0 0
 phases-none n s r ws qs ms q l =
     let z : 0 * n ≡ 0 = omega arith in
     record {

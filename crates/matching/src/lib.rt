@@ -46,7 +46,7 @@ struct Candidate {
     lows: PortSet,
 }
 
-// A table and its queues, lent for a look.
+// A table and its queues, lent for a look at the cells that can be picked.
 #[derive(Clone, Copy, Debug)]
 struct LinedTable<'a> {
     table: &'a [u32],
@@ -80,9 +80,10 @@ impl LinedTable<'_> {
         ensures { Lows r.counts taken (cells_of self.entry.table.now) result.mask }
     {
         let mut lowest = Tied::none();
-        for o in self.queues.wanted().except(taken.outputs).iter() {
-            if self.is_servable(taken.inputs, Output(o)) {
-                lowest = lowest.lowered(o, r.counts[o as usize]);
+        for port in self.queues.wanted().except(taken.outputs).iter() {
+            let o = Output(port);
+            if self.is_servable(taken.inputs, o) {
+                lowest = lowest.lowered(port, r.counts[usize::from(o)]);
             }
         }
         lowest.ports
@@ -120,59 +121,59 @@ impl LinedTable<'_> {
     }
 }
 
-// The cell of record k becomes ready and takes its ports, and its input is kept at its output; the head of its pair is found anew.
-fn take(
-    table: &mut [u32],
-    queues: &mut PairQueues,
-    served: &mut [u32; PORT_COUNT],
-    k: usize,
+// The match of a phase as its rounds build it: the ports that it takes, and for each taken output the input that is served.
+#[derive(Clone, Copy, Debug)]
+struct Match {
     taken: Taken,
-) -> Taken
-    requires { Takeable table.old queues.old k }
-    ensures { Takes table.old taken served.old k table.new queues.new result served.new }
-{
-    let c = table::cell_at(table, k);
-    table::set_place(table, k, READY);
-    queues.renew(table, c.input, c.output);
-    served[usize::from(c.output)] = c.input.0;
-    taken.with(c)
+    served: [u32; PORT_COUNT],
 }
 
-// Rounds of picking: the first candidate is taken, again and again, until there is none. For each taken output the input served is kept.
-fn pick(
-    table: &mut [u32],
-    queues: &mut PairQueues,
-    served: &mut [u32; PORT_COUNT],
-    r: Reading,
-    ports: u32,
-) -> Taken
+impl Match {
+    // The cell of record k becomes ready and takes its ports, and its input is kept at its output; the head of its pair is found anew.
+    fn take(&mut self, table: &mut [u32], queues: &mut PairQueues, k: usize)
+        requires { Takeable table.old queues.old k }
+        ensures { Takes table.old self.old.taken self.old.served k table.new queues.new self.new.taken self.new.served }
+    {
+        let c = table::cell_at(table, k);
+        table::set_place(table, k, READY);
+        queues.renew(table, c.input, c.output);
+        self.served[usize::from(c.output)] = c.input.0;
+        self.taken = self.taken.with(c);
+    }
+
+    // The match words: 1 + the input served at each taken output, lowest first; 0 at the others.
+    fn write_words(&self, words: &mut [u32])
+        requires { Writable self.now.taken.outputs.mask self.now.served (length words.old) }
+        ensures words_len_unchanged { length words.new ≡ length words.old }
+        ensures written { Written (has self.now.taken.outputs.mask) self.now.served words.new }
+    {
+        words.fill(0);
+        for o in self.taken.outputs.iter() {
+            let at = usize::from(Output(o));
+            words[at] = self.served[at] + 1;
+        }
+    }
+}
+
+// Rounds of picking: the first candidate is taken, again and again, until there is none.
+fn pick(table: &mut [u32], queues: &mut PairQueues, r: Reading, ports: u32) -> Match
     requires { Ready ports table.old queues.old }
-    ensures { Picked ports r.counts table.old table.new queues.new result served.new }
+    ensures { Picked ports r.counts table.old table.new queues.new result.taken result.served }
 {
-    let mut taken = Taken::default();
+    let mut picked = Match {
+        taken: Taken::default(),
+        served: [0; PORT_COUNT],
+    };
     let mut lows = PortSet::default();
     'rounds: for _ in 0..ports {
-        let candidate = LinedTable { table, queues }.first_candidate(r, taken, lows);
+        let candidate = LinedTable { table, queues }.first_candidate(r, picked.taken, lows);
         let Some(k) = candidate.found else {
             break 'rounds;
         };
         lows = candidate.lows;
-        taken = take(table, queues, served, k, taken);
+        picked.take(table, queues, k);
     }
-    taken
-}
-
-// The match words: 1 + the input served at each taken output, lowest first; 0 at the others.
-fn write_words(words: &mut [u32], served: &[u32; PORT_COUNT], outputs: PortSet)
-    requires { Writable outputs.mask served.now (length words.old) }
-    ensures words_len_unchanged { length words.new ≡ length words.old }
-    ensures written { Written (has outputs.mask) served.now words.new }
-{
-    words.fill(0);
-    for o in outputs.iter() {
-        let at = o as usize;
-        words[at] = served[at] + 1;
-    }
+    picked
 }
 
 // One transfer phase, with its match words; answers how many cells moved.
@@ -187,39 +188,13 @@ fn transfer(
     requires words_len { length words.old ≡ ports }
     ensures { Transferred ports r.counts table.old table.new queues.new words.new result }
 {
-    let mut served = [0; PORT_COUNT];
-    let taken = pick(table, queues, &mut served, r, ports);
-    write_words(words, &served, taken.outputs);
-    taken.outputs.len()
+    let picked = pick(table, queues, r, ports);
+    picked.write_words(words);
+    picked.taken.outputs.len()
 }
 
-// S transfer phases by one reading, with all match words. Where a phase moves nothing, those after it move nothing either.
-fn run_phases(
-    table: &mut [u32],
-    queues: &mut PairQueues,
-    matches: &mut [u32],
-    r: Reading,
-    ports: u32,
-    speedup: u32,
-)
-    requires ready { Ready ports table.old queues.old }
-    requires matches_len { length matches.old ≡ speedup * ports }
-    ensures table_after { table.new ≡ with_records table.old (phases ports r.counts (cells_of table.old) speedup) }
-    ensures matches_after { matches.new ≡ matches_of ports r.counts (cells_of table.old) speedup }
-{
-    let mut at = 0;
-    for _ in 0..speedup {
-        let end = at + ports as usize;
-        let moved = transfer(table, queues, &mut matches[at..end], r, ports);
-        if moved == 0 {
-            matches[end..].fill(0);
-            return;
-        }
-        at = end;
-    }
-}
-
-// The transfer phases of a slot. The waiting cells are lined up once, for all of them.
+// The S transfer phases of a slot by one reading, with all match words. The waiting cells are lined up once, for all of them. Where a phase moves
+// nothing, those after it move nothing either.
 pub fn transfers(table: &mut [u32], matches: &mut [u32], r: Reading, ports: u32, speedup: u32)
     requires orderly { Orderly ports table.old }
     requires matches_len { length matches.old ≡ speedup * ports }
@@ -227,5 +202,14 @@ pub fn transfers(table: &mut [u32], matches: &mut [u32], r: Reading, ports: u32,
     ensures matches_after { matches.new ≡ matches_of ports r.counts (cells_of table.old) speedup }
 {
     let mut queues = PairQueues::line_up(table);
-    run_phases(table, &mut queues, matches, r, ports, speedup);
+    let mut at = 0;
+    for _ in 0..speedup {
+        let end = at + ports as usize;
+        let moved = transfer(table, &mut queues, &mut matches[at..end], r, ports);
+        if moved == 0 {
+            matches[end..].fill(0);
+            return;
+        }
+        at = end;
+    }
 }

@@ -5,15 +5,15 @@ use Rattle.matching.proofs.pick.Goals as goal
 
 pub rounds-init : goal.rounds-init
 rounds-init c =
-    rw c.default-lows.ensures (rounds_none _ _ _ _ _ _ c.requires.queues c.default-taken.ensures.0 c.default-taken.ensures.1 (omega arith))
+    rw c.default-lows.ensures (rounds_none _ _ _ _ _ _ c.requires.queues c.default.ensures.0 c.default.ensures.1 (omega arith))
 
-pub take-taken-requires : goal.take-taken-requires
-take-taken-requires c = rounds_take c.rounds.invariant c.first_candidate-candidate.ensures.first c.in-Some.is c.requires.orderly
+pub take-requires : goal.take-requires
+take-requires c = rounds_take c.rounds.invariant c.first_candidate-candidate.ensures.first c.in-Some.is c.requires.orderly
 
 pub rounds-preserved : goal.rounds-preserved
 rounds-preserved c =
     let e = c.first_candidate-candidate.ensures in
-    rounds_more c.rounds.invariant e.first c.in-Some.is c.requires.orderly c.rounds-test.true e.kept_next c.take-taken.ensures
+    rounds_more c.rounds.invariant e.first c.in-Some.is c.requires.orderly c.rounds-test.true e.kept_next c.take.ensures
 
 pub returns-after-rounds : goal.returns-after-rounds
 returns-after-rounds c = rounds_all c.rounds.invariant (omega (arith, c.rounds.invariant.rounds))

@@ -4,4 +4,4 @@ use Rattle.matching.specs.Rounds.{AfterRounds}
 use Rattle.matching.proofs.pick.Given as goal
 
 abbrev pub invariant-rounds : goal.invariant-rounds
-invariant-rounds l = AfterRounds l.ports l.r.counts l.fn.table l.table l.queues l.taken l.served l.lows.mask l.counter
+invariant-rounds l = AfterRounds l.ports l.r.counts l.fn.table l.table l.queues l.picked.taken l.picked.served l.lows.mask l.counter

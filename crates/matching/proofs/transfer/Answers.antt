@@ -6,17 +6,17 @@ use Rattle.matching.proofs.transfer.Goals as goal
 
 pub write_words-requires : goal.write_words-requires
 write_words-requires c =
-    rw c.requires.words_len (shows_writable c.requires.ready.orderly _ c.pick-taken.ensures.shows)
+    rw c.requires.words_len (shows_writable c.requires.ready.orderly _ c.pick-picked.ensures.shows)
 
 pub returns : goal.returns
 unfolding phase
 returns c =
     let o = c.requires.ready.orderly in
-    let s = c.pick-taken.ensures.shows in
+    let s = c.pick-picked.ensures.shows in
     let w = c.write_words.ensures in
     record {
       words = s.table;
-      queues = c.pick-taken.ensures.queues;
+      queues = c.pick-picked.ensures.queues;
       matched = shows-words o _ s _ (w.words_len_unchanged ∙ c.requires.words_len) w.written;
       moved = c.len.ensures ∙ shows_moves o _ s;
     }

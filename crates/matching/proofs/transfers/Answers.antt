@@ -1,9 +1,35 @@
--- The waiting cells are lined up, and the phases run by their queues.
+-- The waiting cells are lined up. A phase writes its row of words in its place; where one moves nothing, the table stays and the words behind its
+-- row become 0.
+use Rattle.std.proofs.Common.{refl, rules, arith}
+use borrow.Rule.Slice.PartMut.{same_len_mid}
 use Rattle.queues.specs.Lining.{lined_up_lem}
 use Rattle.matching.specs.Ready.{orderly_lineable}
+use Rattle.matching.specs.Transfers.{phases-none, phases-ready, phases_more, phases_quiet, phases_all}
 use Rattle.matching.proofs.transfers.Goals as goal
 
-pub run_phases-requires-clause-ready : goal.run_phases-requires-clause-ready
-run_phases-requires-clause-ready c =
-    let o = c.requires.orderly in
-    record { orderly = o; queues = rw c.line_up-queues.ensures (lined_up_lem (orderly_lineable o)) }
+pub loop-init : goal.loop-init
+loop-init c =
+    phases-none _ _ _ _ _ _ (rw c.line_up-queues.ensures (lined_up_lem (orderly_lineable c.requires.orderly))) c.requires.matches_len
+
+pub transfer-moved-requires-clause-ready : goal.transfer-moved-requires-clause-ready
+transfer-moved-requires-clause-ready c = phases-ready c.loop.invariant c.requires.orderly
+
+pub returns-then-moved-eq0-clause-table_after : goal.returns-then-moved-eq0-clause-table_after
+returns-then-moved-eq0-clause-table_after c =
+    let same = same_len_mid _ _ c.loop.matches _ c.transfer-moved.auto.words in
+    (phases_quiet c.loop.invariant c.loop-test.true c.transfer-moved.ensures _ same c.requires.orderly c.if-moved-eq0.true _ _ refl
+    (c.fill.ensures.after (λ y h. search rules))).0
+
+pub returns-then-moved-eq0-clause-matches_after : goal.returns-then-moved-eq0-clause-matches_after
+returns-then-moved-eq0-clause-matches_after c =
+    let same = same_len_mid _ _ c.loop.matches _ c.transfer-moved.auto.words in
+    (phases_quiet c.loop.invariant c.loop-test.true c.transfer-moved.ensures _ same c.requires.orderly c.if-moved-eq0.true _ _ refl
+    (c.fill.ensures.after (λ y h. search rules))).1
+
+pub loop-preserved : goal.loop-preserved
+loop-preserved c =
+    let same = same_len_mid _ _ c.loop.matches _ c.transfer-moved.auto.words in
+    phases_more c.loop.invariant c.loop-test.true c.transfer-moved.ensures _ same
+
+pub returns-clause-matches_after : goal.returns-clause-matches_after
+returns-clause-matches_after c = (phases_all c.loop.invariant (omega (arith, c.loop.invariant.few))).1

@@ -7,4 +7,5 @@ use Rattle.matching.proofs.LinedTable.first_among.Given as goal
 
 abbrev pub invariant-loop-o : goal.invariant-loop-o
 invariant-loop-o l =
-    Walked (AmongOutputs (has l.inputs.mask) l.fn.outputs.mask (cells_of l.self.table.now)) (has l.fn.outputs.mask) (has l.o-iterator.left.mask) l.found
+    Walked (AmongOutputs (has l.inputs.mask) l.fn.outputs.mask (cells_of l.self.table.now))
+    (has l.fn.outputs.mask) (has l.o-iterator.left.mask) l.found

@@ -8,22 +8,22 @@ use Rattle.queues.specs.Layout.{wanted}
 use Rattle.matching.specs.Rounds.{lowering_none, lowering_skip, lowering_visit, all_wanted}
 use Rattle.matching.proofs.LinedTable.lowest_readings.Goals as goal
 
-pub loop-o-init : goal.loop-o-init
-loop-o-init c =
-    let e : c.into_iter-o-iterator.result.left.mask ≡ except_ports (wanted c.args.self.queues.now) c.args.taken.outputs.mask = cc in
+pub loop-port-init : goal.loop-port-init
+loop-port-init c =
+    let e : c.into_iter-port-iterator.result.left.mask ≡ except_ports (wanted c.args.self.queues.now) c.args.taken.outputs.mask = cc in
     rw e (walk_none (lowering_none c.none-lowest.ensures.0))
 
-pub loop-o-preserved-then-is_servable : goal.loop-o-preserved-then-is_servable
+pub loop-port-preserved-then-is_servable : goal.loop-port-preserved-then-is_servable
 unfolding reading_for
-loop-o-preserved-then-is_servable c =
-    rw c.lowered-lowest.ensures
-    (walk_visit (c.in-Some.ensures {u = tt}).steps c.loop-o.invariant
+loop-port-preserved-then-is_servable c =
+    rw (c.lowered-lowest.ensures, c.from.ensures)
+    (walk_visit (c.in-Some.ensures {u = tt}).steps c.loop-port.invariant
     (λ u h. lowering_visit h _ (sym c.is_servable.ensures ∙ c.if-is_servable.true) _ refl))
 
-pub loop-o-preserved : goal.loop-o-preserved
-loop-o-preserved c =
-    walk_visit (c.in-Some.ensures {u = tt}).steps c.loop-o.invariant
+pub loop-port-preserved : goal.loop-port-preserved
+loop-port-preserved c =
+    walk_visit (c.in-Some.ensures {u = tt}).steps c.loop-port.invariant
     (λ u h. lowering_skip h _ (sym c.is_servable.ensures ∙ c.if-is_servable.false))
 
 pub returns : goal.returns
-returns c = all_wanted c.args.self.lined_up (excepted refl) (walk_done (c.in-None.ensures {u = tt}).steps c.loop-o.invariant)
+returns c = all_wanted c.args.self.lined_up (excepted refl) (walk_done (c.in-None.ensures {u = tt}).steps c.loop-port.invariant)

@@ -6,7 +6,7 @@ use Rattle.queues.specs.Layout.{wanted}
 use Rattle.matching.specs.Rounds.{Lowering}
 use Rattle.matching.proofs.LinedTable.lowest_readings.Given as goal
 
-abbrev pub invariant-loop-o : goal.invariant-loop-o
-invariant-loop-o l =
-    Walked (Lowering l.r.counts (has l.taken.inputs.mask) (cells_of l.self.table.now)) (has (except_ports (wanted l.self.queues.now) l.taken.outputs.mask))
-    (has l.o-iterator.left.mask) l.lowest
+abbrev pub invariant-loop-port : goal.invariant-loop-port
+invariant-loop-port l =
+    Walked (Lowering l.r.counts (has l.taken.inputs.mask) (cells_of l.self.table.now))
+    (has (except_ports (wanted l.self.queues.now) l.taken.outputs.mask)) (has l.port-iterator.left.mask) l.lowest

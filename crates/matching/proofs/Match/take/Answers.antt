@@ -1,6 +1,6 @@
 -- Each part is what the call for it says, of the cell that was read.
 use Rattle.matching.specs.Ready.{taken_stale, taken_queues}
-use Rattle.matching.proofs.take.Goals as goal
+use Rattle.matching.proofs.Match.take.Goals as goal
 
 pub renew-requires : goal.renew-requires
 renew-requires c = taken_stale c.requires c.cell_at-c.ensures c.set_place.ensures
@@ -11,7 +11,7 @@ returns c =
     record {
       table = c.set_place.ensures;
       queues = taken_queues c.requires e c.set_place.ensures c.renew.ensures;
-      inputs = rw (← e) c.with.ensures.inputs;
-      outputs = rw (← e) c.with.ensures.outputs;
+      inputs = rw (← e) c.with-self.ensures.inputs;
+      outputs = rw (← e) c.with-self.ensures.outputs;
       served = cc;
     }

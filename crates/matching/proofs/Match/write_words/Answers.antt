@@ -2,7 +2,7 @@
 use Rattle.std.proofs.Common.{◌≡◌, ℕ, suc, ◌<◌, Bool, List, length, get_or, set, rules, arith, length-set}
 use Rattle.laws.specs.SetWalk.{also, Filled, walk_none, filled_nobody, filled_visit}
 use Rattle.ports.specs.PortLaws.{walk_visit, walk_done}
-use Rattle.matching.proofs.write_words.Goals as goal
+use Rattle.matching.proofs.Match.write_words.Goals as goal
 
 -- the word of an output is written: 1 + what is served there
 word-written : (served : List ℕ) {words : List ℕ} {v : ℕ → Bool} {word : ℕ} (o : ℕ) → word ≡ suc (get_or served o 0) → o < length words
@@ -11,7 +11,7 @@ word-written served o e l h = rw e (filled_visit o l h)
 
 pub loop-o-init : goal.loop-o-init
 loop-o-init c =
-    let whole : c.into_iter-o-iterator.result.left.mask ≡ c.args.outputs.mask = cc in
+    let whole : c.into_iter-o-iterator.result.left.mask ≡ c.args.self.now.taken.outputs.mask = cc in
     record {
       long = c.fill.ensures.len;
       walk = rw (c.fill.ensures.after (λ y h. search rules), whole) (walk_none (filled_nobody _ (length c.args.words.now)));
@@ -22,7 +22,10 @@ loop-o-preserved c =
     let v = (c.in-Some.ensures {u = tt}).steps in
     let w = c.loop-o.invariant in
     let inside : c.in-Some.o < length c.loop-o.words = omega (arith, c.requires.below _ (w.walk.part _ v.lowest.inside)) in
-    record { long = simp length-set w.long; walk = walk_visit v w.walk (λ u f. word-written c.args.served.now _ (omega arith) inside f) }
+    record {
+      long = simp length-set w.long;
+      walk = rw c.from-at.ensures (walk_visit v w.walk (λ u f. word-written c.args.self.now.served _ (omega arith) inside f));
+    }
 
 pub returns-clause-written : goal.returns-clause-written
 returns-clause-written c = walk_done (c.in-None.ensures {u = tt}).steps c.loop-o.invariant.walk
