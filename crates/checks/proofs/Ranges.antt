@@ -1,9 +1,9 @@
--- A search and a count over the range of the numbers below n find what the rules' do.
-use Rattle.std.specs.Prelude.{◌≡◌, ℕ, zero, suc, ◌+◌, Bool, true, false, ◌||◌, cond, List, ◌∷◌, length, filter}
+-- A search in the range of the numbers below n finds what the rules' does.
+use Rattle.std.specs.Prelude.{◌≡◌, ℕ, zero, suc, ◌+◌, Bool, ◌||◌}
 use Rattle.std.specs.List.{list_any, range_with_len}
-use Rattle.std.proofs.Common.{sym, ◌∙◌, ap, refl, arith, add-one}
+use Rattle.std.proofs.Common.{sym, ◌∙◌, ap, arith, add-one}
 use Rattle.std.proofs.Math.Bool.{or_assoc, or-false}
-use Rattle.laws.specs.Count.{bit, any, count, count_suc}
+use Rattle.laws.specs.Count.{any}
 use Rattle.laws.specs.Walk.{over}
 
 module _ (p : ℕ → Bool) where
@@ -20,18 +20,3 @@ module _ (p : ℕ → Bool) where
   pub any_range : (n : ℕ) → list_any p (range_with_len 0 n) ≡ any p n
   unfolding any over
   any_range n = let e : 0 + n ≡ n = omega arith in any_from n 0 ∙ ap (any p) e
-
-  kept : (b : Bool) (x : ℕ) (xs : List ℕ) → length (cond b (x ∷ xs) xs) ≡ bit b + length xs
-  kept true x xs = omega arith
-  kept false x xs = omega arith
-
-  count_from : (n a : ℕ) → length (filter p (range_with_len a n)) + count p a ≡ count p (a + n)
-  count_from zero a = let e : a + 0 ≡ a = omega arith in rw e (omega arith)
-  count_from (suc n) a =
-      let e : a + suc n ≡ (a + 1) + n = omega arith in
-      let step : count p (a + 1) ≡ bit (p a) + count p a = rw (add-one a) (count_suc p a) in
-      rw e (omega (arith, kept (p a) a (filter p (range_with_len (a + 1) n)), step, count_from n (a + 1)))
-
-  pub count_range : (n : ℕ) → length (filter p (range_with_len 0 n)) ≡ count p n
-  unfolding count over
-  count_range n = let e : 0 + n ≡ n = omega arith in omega (arith, count_from n 0, ap (count p) e)
