@@ -1,15 +1,11 @@
 -- A walk over records: what its stretch tells of the records from where it has come to, and how what was passed is joined.
-use Rattle.std.proofs.Common.{◌≡◌, refl, sym, true, ℕ, List, ◌+◌, ◌-◌, ◌≤◌, ◌<◌, get_or, ap, ⊎_elim, arith, ltb, ltb-true, ltb-false, eq-eqb}
-use Rattle.std.proofs.lemmas.Bool.{false≢true}
+use Rattle.std.proofs.Common.{◌≡◌, ℕ, List, ◌+◌, ◌-◌, ◌≤◌, ◌<◌, get_or, ap, ⊎_elim, arith, ltb, ltb-true, ltb-false, eq-eqb}
 use Rattle.laws.specs.Tests.{passes, refuted, denied}
 use Rattle.laws.specs.Sifted.{chosen_passes}
 use Rattle.rules.specs.Cells.{records}
 use Rattle.sift.specs.declared.walk.Records.{Records}
 use Rattle.sift.specs.Stretch.{has_bits, Lacks, listed_sifted}
-use Rattle.sift.specs.Walk.{Bare, Next, Last, Turn, Passed, Sought, reached}
-
-pub passed_none : (ws : List ℕ) (bits at : ℕ) → Passed ws bits at at
-passed_none ws bits at = record { forth = omega arith; bare = λ x a b. absurd (omega arith) }
+use Rattle.sift.specs.Walk.{Bare, Next, Last, Turn, Passed, reached}
 
 module _ {ws : List ℕ} {bits at on : ℕ} (p : Passed ws bits at on) where
   -- of the same words and bits
@@ -74,7 +70,3 @@ next_as e q n = rw (← e, ← q) n
 -- each turn leaves fewer records ahead
 pub turn_less : {s t : Records} {k : ℕ} → Turn s k t → records t.table.now - reached t < records s.table.now - reached s
 turn_less h = omega (arith, ap records h.words, h.on, h.next.forth, h.next.inside)
-
--- nothing was passed yet
-pub sought_here : (s : Records) → s.turn < s.listed.count → Sought s true s
-sought_here s l = record { words = refl; bits_are = refl; passed = passed_none _ _ _; found = λ h. l; none = λ h. absurd (false≢true (sym h)) }

@@ -61,6 +61,14 @@ BlockLacks ws k bits = Block block (Lacks ws k bits)
 pub record Listed (ws : List ℕ) (k n bits : ℕ) (list : List ℕ) (m : ℕ) : Type 0 where
   pub numbers : Chosen (has_bits ws k bits) n list m
 
+-- the records from `from` to `end` are a stretch and listed, where all from k on before them lack the bits; it is the last one if it lists none
+pub record NextListed (ws : List ℕ) (k bits from end : ℕ) (list : List ℕ) (m : ℕ) : Type 0 where
+  pub stretch : Stretch ws from end
+  pub listed : Listed ws from (end - from) bits list m
+  pub forth : k ≤ from
+  pub between : (x : ℕ) → k ≤ x → x < from → bit_and (nth (cells_of ws) x).place bits ≡ 0
+  pub last : m ≡ 0 → end ≡ records ws
+
 -- which settles how many they are and which; what stands behind them is left open, and whoever reads m of them cannot tell
 pub listed_settled : {ws : List ℕ} {k n bits : ℕ} {list other : List ℕ} {m r : ℕ} → Listed ws k n bits list m → Listed ws k n bits other r
     → (m ≡ r) × (take m list ≡ take r other)
@@ -98,6 +106,12 @@ module _ {ws : List ℕ} {k n bits : ℕ} {list : List ℕ} {m : ℕ} (d : Liste
   listed_on l i h = record {
     numbers = l.chosen (has_bits ws k bits) (λ x a b. word_has ws k bits x (omega arith) ∙ sym (h x a b (l.stays x) (l.given x a b))) d.numbers;
   }
+
+  -- where none is listed all lack the bits
+  pub listed_bare : m ≡ 0 → (x : ℕ) → k ≤ x → x < k + n → bit_and (nth (cells_of ws) x).place bits ≡ 0
+  listed_bare z x a b =
+      let e : k + (x - k) ≡ x = omega arith in
+      rw e at ((rw z at listed_sifted).rest (x - k) (omega arith) (omega arith))
 
   -- the first m numbers by themselves
   pub listed_front : {xs : List ℕ} → (xs ≡ take m list) × (length xs ≡ m) → Listed ws k n bits xs (length xs)

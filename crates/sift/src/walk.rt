@@ -1,9 +1,11 @@
 // A walk over the records whose places have some of the bits that are asked for, by rising number.
 
 ghost use Rattle.std.specs.Prelude.{◌≤◌, ◌-◌};
-ghost use Rattle.sift.specs.Stretch.{Stretch, Listed};
+ghost use Rattle.rules.specs.Cells.{records};
+ghost use Rattle.sift.specs.Stretch.{Stretch, Listed, NextListed};
 
 use crate::{Numbers, STRETCH, sift_records, stretch_end};
+use std::ops::Range;
 
 // The stretch at hand begins with record `from` and ends before record `end`; `turn` of the records that it lists were given.
 #[derive(Clone, Copy, Debug)]
@@ -41,31 +43,36 @@ impl<'a> Records<'a> {
     fn is_any_left(&mut self) -> bool
         ensures { Sought self.old result self.new }
     {
-        self.turn < self.listed.count || self.go_on()
-    }
-
-    // Goes on to the next stretch that lists a record; whether there is one. It stays a call, so that a turn of the walk is short code.
-    #[inline(never)]
-    fn go_on(&mut self) -> bool
-        ensures { Sought self.old result self.new }
-    {
-        let n = self.table.len() / rules::RECORD_WORDS;
-        while self.turn == self.listed.count {
-            if self.end == n {
-                return false;
-            }
-            self.from = self.end;
-            self.end = stretch_end(self.from, n);
-            sift_records(self.table, self.from, self.end, self.bits, &mut self.listed);
-            self.turn = 0;
+        if self.turn < self.listed.count {
+            return true;
         }
-        true
+        let next = list_next(self.table, self.end, self.bits, &mut self.listed);
+        self.from = next.start;
+        self.end = next.end;
+        self.turn = 0;
+        self.listed.count != 0
     }
+}
+
+// Lists the next stretch from record k on that has a record with one of `bits`, and gives where it begins and ends; the last one where none has. It
+// stays a call, so that a turn of the walk is short code.
+#[inline(never)]
+fn list_next(table: &[u32], k: usize, bits: u32, listed: &mut Numbers<STRETCH>) -> Range<usize>
+    requires { k ≤ records table.now }
+    ensures { NextListed table.now k bits result.start result.end listed.new.list listed.new.count }
+{
+    let n = table.len() / rules::RECORD_WORDS;
+    listed.clear();
+    let mut next = k..k;
+    while listed.count == 0 && next.end < n {
+        next = next.end..stretch_end(next.end, n);
+        sift_records(table, next.start, next.end, bits, listed);
+    }
+    next
 }
 
 impl<'a> Iterator for Records<'a> {
     ghost use Rattle.std.specs.Iterator.{at_most};
-    ghost use Rattle.rules.specs.Cells.{records};
     ghost use Rattle.sift.specs.Walk.{Walks, reached};
 
     type Item = usize;
