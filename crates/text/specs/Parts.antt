@@ -1,7 +1,7 @@
 -- What the code does with the part of a line that a piece of the input has: the steps over its bytes, up to the byte that ends what is read.
 -- Definitions that its contracts cite, then the laws by which parts are joined, and numbers, fields and lines read at once.
 -- Assumes nothing.
-use Rattle.std.specs.Prelude.{ℕ, zero, suc, ◌+◌, ◌≤◌, ◌<◌, ◌≡◌, Bool, true, false, cond, ◌&&◌, ◌||◌, leb, ltb, eqb, nat_lt, drop, Option, Some, None, unwrap_or, position}
+use Rattle.std.specs.Prelude.{ℕ, zero, suc, ◌+◌, ◌≤◌, ◌<◌, ◌≡◌, Bool, true, false, cond, ◌&&◌, ◌||◌, leb, ltb, eqb, nat_lt, drop, Some, None, unwrap_or, position}
 use Rattle.std.specs.List.{position_or_len}
 use Rattle.std.proofs.Math.Path.{refl, sym, ap}
 use Rattle.std.proofs.Common.{◌∙◌, ⊎_elim, arith, add-zero, eqb-true, eq-eqb, ne_eqb, ltb-true, ltb-false, length-drop}

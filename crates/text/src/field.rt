@@ -1,6 +1,6 @@
 // A field of a slot line: `-`, or an output, a colon and a tag.
 
-ghost use Rattle.std.specs.Prelude.{◌≡◌, ◌<◌, length, get_or};
+ghost use Rattle.std.specs.Prelude.{◌≡◌, slice_get};
 ghost use Rattle.text.specs.declared.field.Field.TheVariants.{Start, Dash, Output, Tag, NoField};
 ghost use Rattle.characters.specs.Characters.{colon};
 ghost use Rattle.text.specs.Steps.{field_end, tag_end, is_good};
@@ -70,7 +70,7 @@ fn tag_end(word: u32, number: Number) -> Option<Arrival>
 }
 
 // A field that has no byte yet stays so.
-#[tactic(auto, using(crate::specs::Parts::taken_none, crate::specs::Parts::start_output))]
+#[tactic(auto, using(crate::specs::Parts::taken_none))]
 fn read_start(piece: &mut Piece<'_>) -> Field
     ensures taken { FieldTaken piece.old.bytes.now Start piece.old.next result piece.new.next }
     ensures same_bytes { piece.new.bytes.now ≡ piece.old.bytes.now }
@@ -103,7 +103,7 @@ fn read_output(number: Number, piece: &mut Piece<'_>) -> Field
 
 // From the colon on. An output's word is the output + 1, so the largest number is no output.
 fn read_colon(number: Number, piece: &mut Piece<'_>) -> Field
-    requires { (piece.old.next < length piece.old.bytes.now) × (get_or piece.old.bytes.now piece.old.next 0 ≡ colon) }
+    requires { slice_get piece.old.bytes.now piece.old.next ≡ Some colon }
     ensures taken { FieldTaken piece.old.bytes.now (Output number) piece.old.next result piece.new.next }
     ensures same_bytes { piece.new.bytes.now ≡ piece.old.bytes.now }
 {

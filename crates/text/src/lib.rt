@@ -3,7 +3,8 @@
 // specs/Reading.antt and proofs/Reading.antt have the laws that a step a byte comes to that, and specs/Parts.antt those by which many bytes are read at once.
 #![tactic(auto)]
 
-ghost use Rattle.std.specs.Prelude.{◌≡◌};
+ghost use Rattle.std.specs.Prelude.{◌≡◌, unwrap_or};
+ghost use Rattle.text.specs.declared.field.Field.TheVariants.{NoField};
 ghost use Rattle.text.specs.Steps.{line_state_of, reader_start, end_field, Finished, one_more, first_start, first_step, first_answer};
 ghost use Rattle.text.specs.Parts.{LineTaken};
 
@@ -132,26 +133,30 @@ impl SlotReader {
     }
 
     // The field's end. What cannot be read, or has no room, breaks the line.
-    #[tactic(auto, using(std::proofs::lemmas::Bool::Decides::nat_tests), unfolding(crate::specs::Steps::end_field, crate::specs::Steps::written))]
     fn end_field(self, words: &mut [u32]) -> SlotReader
         ensures { line_state_of result words.new ≡ end_field (line_state_of self words.old) }
     {
-        let broken = SlotReader {
+        self.write(words).unwrap_or(SlotReader {
             field: Field::NoField,
             ..self
-        };
-        let Some(arrival) = self.field.end() else {
-            return broken;
-        };
-        let size = words.len();
-        if size < ARRIVAL_WORDS || self.at > size - ARRIVAL_WORDS {
-            return broken;
+        })
+    }
+
+    // The reader behind the words of the field, where it is one and the list has room for them.
+    #[tactic(auto, using(std::proofs::lemmas::Bool::Decides::nat_tests), unfolding(crate::specs::Steps::end_field, crate::specs::Steps::written))]
+    fn write(self, words: &mut [u32]) -> Option<SlotReader>
+        ensures { line_state_of (unwrap_or result (record self { field = NoField })) words.new ≡ end_field (line_state_of self words.old) }
+    {
+        let arrival = self.field.end()?;
+        let last = words.len().checked_sub(ARRIVAL_WORDS)?;
+        if self.at > last {
+            return None;
         }
         words[self.at] = arrival.word;
         words[self.at + 1] = arrival.tag;
-        SlotReader {
+        Some(SlotReader {
             at: self.at + ARRIVAL_WORDS,
             field: Field::Start,
-        }
+        })
     }
 }

@@ -6,7 +6,7 @@ ghost use Rattle.text.specs.Parts.{ends};
 use characters::{NEWLINE, SPACE};
 
 // A piece of the input, and the first of its bytes that was not taken.
-#[derive(Clone, Copy, Debug)]
+#[derive(Debug, Drop)]
 pub struct Piece<'a> {
     pub bytes: &'a [u8],
     pub next: usize,
@@ -18,14 +18,12 @@ impl Piece<'_> {
     ghost use Rattle.text.specs.Parts.{Upto};
 
     // The first byte that was not taken. At the piece's end there is none.
-    #[inline(always)]
     pub fn peek(&self) -> Option<u8>
         ensures { result ≡ slice_get self.now.bytes.now self.now.next }
     {
         self.bytes.get(self.next).copied()
     }
 
-    #[inline(always)]
     pub fn advance(&mut self)
         requires { self.old.next < length self.old.bytes.now }
         ensures next { self.new.next ≡ self.old.next + 1 }
@@ -35,8 +33,6 @@ impl Piece<'_> {
     }
 
     // Takes the bytes before the first that is `stop` or ends a field.
-    #[inline(always)]
-    #[tactic(auto, using(crate::specs::Parts::upto_first))]
     pub(crate) fn skip(&mut self, stop: u8)
         ensures place { Upto (ends stop) self.old.bytes.now self.old.next self.new.next }
         ensures same_bytes { self.new.bytes.now ≡ self.old.bytes.now }
@@ -47,14 +43,12 @@ impl Piece<'_> {
 }
 
 // The place of the first byte that is `stop` or ends a field, if there is one.
-#[inline(always)]
 fn end_in(bytes: &[u8], stop: u8) -> Option<usize>
     ensures { result ≡ position (ends stop) bytes.now }
 {
     bytes.iter().position(|byte| ends(*byte, stop))
 }
 
-#[inline(always)]
 #[tactic(auto, using(std::proofs::lemmas::Bool::Decides::nat_tests), unfolding(crate::specs::Parts::ends))]
 fn ends(byte: u8, stop: u8) -> bool
     ensures { result ≡ ends stop byte }

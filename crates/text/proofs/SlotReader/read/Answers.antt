@@ -1,6 +1,6 @@
 -- A turn reads the line up to the end of the field that it has come to, or to the piece's, and then the space that ends the field.
 -- Assumes nothing.
-use Rattle.std.proofs.Common.{◌<◌, refl, ◌∙◌, sym, length, arith}
+use Rattle.std.proofs.Common.{refl, ◌∙◌, sym, arith}
 use Rattle.laws.specs.Tests.{denied, to_so}
 use Rattle.text.specs.Parts.{stepped_none, ends-newline, line_field, line_space, line_taken}
 use Rattle.text.proofs.Places.{passed, failed}
