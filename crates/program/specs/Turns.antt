@@ -111,11 +111,13 @@ state_front w words front rest h = ap (λ (l : List ℕ). record { numbers = w; 
 
 -- a slot line's text, and the switch between two lines; the lent front of the table came back
 pub turns_line : (x y : Running) (table words rest : List ℕ) {out out' : List ℕ} (o : Outcome) → o ≡ slot_on (state_of x table) words
-    → y.crossbar.numbers ≡ o.numbers → y.words ≡ x.words → length o.table ≡ x.words → Put end_room out (answer_text x.crossbar.numbers o.answer o.exhaled) out'
+    → y.crossbar.numbers ≡ o.numbers → y.words ≡ x.words → length o.table ≡ x.words
+    → Put end_room out (answer_text x.crossbar.numbers o.answer o.exhaled) out'
     → Turns (on_words (state_of x table) words) out (Between y) (o.table ++ rest) out'
 turns_line x y table words rest o is n w l p =
+    let after = state_front y.crossbar.numbers y.words o.table rest (l ∙ sym w) in
     turns_between p (omega arith)
-    (λ more. rw (line_text_lem (state_of x table) words o is, line_after_lem (state_of x table) words o is, ← n, ← state_front y.crossbar.numbers y.words o.table rest (l ∙ sym w)))
+    (λ more. rw (line_text_lem (state_of x table) words o is, line_after_lem (state_of x table) words o is, ← n, ← after))
 
 -- a slot line's end, where it was not read and where it was
 module _ (x : State) (s : LineState) {out out' table : List ℕ} where

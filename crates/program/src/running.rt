@@ -37,6 +37,7 @@ impl Running {
     ghost use Rattle.program.specs.Coming.{state_of, line_words, line_of, on_numbers, on_newline, on_words, Turns, PassGoes};
 
     // The fresh start that a first line asks for.
+    #[tactic(auto, using(crate::specs::Start::lent_small))]
     pub(crate) fn begin<const N: usize>(
         line: FirstLine,
         table: &mut [u32; TABLE_WORDS],
@@ -172,8 +173,7 @@ impl Running {
 // The words that are lent for a table of so many records.
 #[tactic(auto, using(std::proofs::lemmas::Bool::Decides::nat_tests), unfolding(crate::specs::Lent::lent_words))]
 fn lent_words(records: u32) -> usize
-    ensures value { result ≡ lent_words records }
-    ensures within { result ≤ lent_table_words }
+    ensures { result ≡ lent_words records }
 {
     records.min(MOST_LENT) as usize * RECORD_WORDS
 }

@@ -1,16 +1,15 @@
 -- Each arm is the case of `coming_by`; a line begins with its first byte.
 use Rattle.std.proofs.Common.{arith, refl}
 use Rattle.program.specs.Coming.{coming_by}
-use Rattle.program.specs.Turns.{goes_byte, goes_over}
+use Rattle.program.specs.Turns.{Steps, goes_byte, goes_over}
 use Rattle.program.proofs.Turns.{goes_begins}
 use Rattle.program.proofs.Program.advance.Goals as goal
 
 pub returns-in-First-clause-goes : goal.returns-in-First-clause-goes
 unfolding coming_by
 returns-in-First-clause-goes g c =
-    rw c.in-First.is
-    (goes_byte _ c.args.arrivals.now c.requires.more refl (record { bytes = c.advance.ensures.same_bytes; next = c.advance.ensures.next }) c.first_step.ensures
-    (omega arith))
+    let step : Steps c.args.piece.now c.advance.new.self = record { bytes = c.advance.ensures.same_bytes; next = c.advance.ensures.next } in
+    rw c.in-First.is (goes_byte _ c.args.arrivals.now c.requires.more refl step c.first_step.ensures (omega arith))
 
 pub returns-in-Between-clause-goes : goal.returns-in-Between-clause-goes
 returns-in-Between-clause-goes g c =

@@ -28,6 +28,6 @@ loop-i-preserved c =
 
 pub returns-clause-text : goal.returns-clause-text
 returns-clause-text c =
+    let f = field_at c.args.numbers.now in
     let none : c.loop-i.i ≡ 0 = omega arith in
-    sym (ap (λ (l : List ℕ). l ++ c.loop-i.self) (ap (λ (n : ℕ). blocks n (field_at c.args.numbers.now)) none ∙ blocks_zero (field_at c.args.numbers.now)))
-    ∙ c.loop-i.invariant.text
+    sym (ap (λ (l : List ℕ). l ++ c.loop-i.self) (ap (λ (n : ℕ). blocks n f) none ∙ blocks_zero f)) ∙ c.loop-i.invariant.text
