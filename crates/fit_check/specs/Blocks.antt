@@ -10,17 +10,9 @@ use Rattle.laws.specs.Sifted.{Sifted, Block, past, blocks_between, blocks-behind
 use Rattle.rules.specs.declared.Cell.{Cell}
 use Rattle.rules.specs.Cells.{free, nth, width, records, cell_at, cells_of}
 use Rattle.words.specs.Words.{cell_ext, field_at, free-field, nth-cells_of, in_words}
-use Rattle.sift.specs.Stretch.{stretch_size, block, block_count, BlockLacks}
-
--- so many blocks from record k on
-pub record Blocks (ws : List ℕ) (k count : ℕ) : Type 0 where
-  pub inside : k + count * block ≤ records ws
-  pub few : count ≤ block_count
-
--- so many records from k on
-pub record Within (ws : List ℕ) (k size : ℕ) : Type 0 where
-  pub inside : k + size ≤ records ws
-  pub short : size ≤ stretch_size
+use Rattle.sift.specs.Stretch.{block, BlockLacks}
+use Rattle.sift.specs.declared.stretch.Stretch.{Stretch}
+use Rattle.sift.specs.Stretches.{blocks_of}
 
 -- record x of the stretch that begins at record k is free
 abbrev pub Free : List ℕ → ℕ → ℕ → Type 0
@@ -33,6 +25,13 @@ BlockFree ws k = Block block (Free ws k)
 -- whose places lack all bits
 pub free_lacks : (ws : List ℕ) (k bits b : ℕ) → BlockFree ws k b → BlockLacks ws k bits b
 free_lacks ws k bits b h j l = ap (λ (c : Cell). bit_and c.place bits) (h j l) ∙ and_zero_l bits
+
+-- the words of block b of a stretch lie within the table
+pub block_inside : (s : Stretch) (b : ℕ) → b < blocks_of s → s.start + b * block + block ≤ records s.table.now
+block_inside s b l = omega (arith, s.is_stretch)
+
+pub block_in_words : (s : Stretch) (b : ℕ) → b < blocks_of s → (s.start + b * block) * width + block * width ≤ length s.table.now
+block_in_words s b l = omega (arith, in_words s.table.now (block_inside s b l))
 
 -- by the words of the block that begins at record k, read as a part of the table
 abbrev pub block_part : List ℕ → ℕ → List ℕ

@@ -6,22 +6,22 @@
 //   word, and the live records are listed, so that only they are looked at one by one.
 #![tactic(auto)]
 
-ghost use Rattle.std.specs.Prelude.{◌≡◌, not, ℕ, ◌+◌, ◌-◌, ◌*◌, ◌/◌, ◌<◌, ◌≤◌, eqb, length};
+ghost use Rattle.std.specs.Prelude.{◌≡◌, not, ◌+◌, ◌-◌, ◌<◌, ◌≤◌, eqb};
 ghost use Rattle.std.specs.List.{fold};
 ghost use Rattle.std.specs.Int.Bits.{bit_or};
 ghost use Rattle.laws.specs.Bits.{or_to};
 ghost use Rattle.laws.specs.Sifted.{Sifted};
 ghost use Rattle.rules.specs.Cells.{width, records, cells_of, same_entry, is_alone, fit};
 ghost use Rattle.words.specs.Behind.{behind};
-ghost use Rattle.sift.specs.Stretch.{block, Stretch};
+ghost use Rattle.sift.specs.Stretches.{blocks_of};
 ghost use Rattle.fit_check.specs.Sound.{sound_by, is_stray, Strays};
-ghost use Rattle.fit_check.specs.Blocks.{Free, BlockFree, Blocks, Within};
+ghost use Rattle.fit_check.specs.Blocks.{BlockFree};
 ghost use Rattle.fit_check.specs.Marks.{Seen, Marked, Told};
 ghost use Rattle.fit_check.specs.Walk.{Surveyed, FitSoFar, FitTo};
 
 use ports::PortSet;
 use rules::{Cell, Slot};
-use sift::{BLOCK, BLOCKS, Numbers, STRETCH};
+use sift::{BLOCK, BLOCKS, Numbers, STRETCH, Stretch};
 
 // How many sets the marks have: slots with the same remainder share one.
 const MARK_ROWS: u32 = 1_024;
@@ -112,23 +112,21 @@ fn or_of(words: &[u32]) -> u32
     words.iter().fold(0, |all, word| all | word)
 }
 
-// The or of the words of the block that begins at record k: 0 only where its records are free.
-fn or_of_block(table: &[u32], k: usize) -> u32
-    requires { k + block ≤ records table.now }
-    ensures { result ≡ 0 → (j : ℕ) → j < block → Free table.now k j }
+// The or of the words of block b of a stretch: 0 only where its records are free.
+fn or_of_block(stretch: Stretch<'_>, b: usize) -> u32
+    requires { b < blocks_of stretch }
+    ensures { result ≡ 0 → BlockFree stretch.entry.table.now stretch.entry.start b }
 {
-    let at = k * rules::RECORD_WORDS;
-    or_of(&table[at..at + BLOCK * rules::RECORD_WORDS])
+    let at = (stretch.start + b * BLOCK) * rules::RECORD_WORDS;
+    or_of(&stretch.table[at..at + BLOCK * rules::RECORD_WORDS])
 }
 
-// Lists the blocks in which some word is not 0, of so many from record k on. The records of the others are free and need no look.
-#[tactic(auto, unfolding(rules::specs::Cells::records))]
-fn touched_blocks(table: &[u32], k: usize, count: usize) -> Numbers<BLOCKS>
-    requires { Blocks table.now k count }
-    ensures { Sifted (BlockFree table.now k) result.list result.count count }
+// Lists the blocks of a stretch in which some word is not 0. The records of the others are free and need no look.
+fn touched_blocks(stretch: Stretch<'_>) -> Numbers<BLOCKS>
+    ensures { Sifted (BlockFree stretch.entry.table.now stretch.entry.start) result.list result.count (blocks_of stretch.entry) }
 {
     let mut blocks = Numbers::none();
-    blocks.list_from(0, count, |b| or_of_block(table, k + b * BLOCK) != 0);
+    blocks.list_from(0, stretch.size() / BLOCK, |b| or_of_block(stretch, b) != 0);
     blocks
 }
 
@@ -152,29 +150,27 @@ fn strays_among(table: &[u32], from: usize, to: usize) -> u32
     all
 }
 
-// The same of so many records from k on, of which the touched blocks are listed.
-fn strays_within(table: &[u32], k: usize, size: usize, blocks: &Numbers<BLOCKS>) -> u32
-    requires within { Within table.now k size }
-    requires sifted { Sifted (BlockFree table.now k) blocks.now.list blocks.now.count (size / block) }
-    ensures { Strays (cells_of table.now) k (k + size) result }
+// The same of the records of a stretch of which the touched blocks are listed.
+fn strays_within(stretch: Stretch<'_>, blocks: &Numbers<BLOCKS>) -> u32
+    requires { Sifted (BlockFree stretch.table.now stretch.start) blocks.now.list blocks.now.count (blocks_of stretch) }
+    ensures { Strays (cells_of stretch.entry.table.now) stretch.entry.start stretch.entry.end result }
 {
     let mut all = 0;
     for b in blocks.as_slice() {
-        let from = k + usize::from(*b) * BLOCK;
-        all |= strays_among(table, from, from + BLOCK);
+        let from = stretch.start + usize::from(*b) * BLOCK;
+        all |= strays_among(stretch.table, from, from + BLOCK);
     }
-    all | strays_among(table, k + size / BLOCK * BLOCK, k + size)
+    let behind = stretch.start + stretch.size() / BLOCK * BLOCK;
+    all | strays_among(stretch.table, behind, stretch.end)
 }
 
-// Lists the live records of the stretch from record k to record `end`, numbered from k on; gives what stands behind the places of its free ones.
-fn list_live(table: &[u32], k: usize, end: usize, live: &mut Numbers<STRETCH>) -> u32
-    requires { Stretch table.now k end }
-    ensures { Surveyed table.now k end live.new.list live.new.count result }
+// Lists the live records of a stretch, and gives what stands behind the places of its free ones.
+fn list_live(stretch: Stretch<'_>, live: &mut Numbers<STRETCH>) -> u32
+    ensures { Surveyed stretch.entry.table.now stretch.entry.start stretch.entry.end live.new.list live.new.count result }
 {
-    let size = end - k;
-    let blocks = touched_blocks(table, k, size / BLOCK);
-    sift::sift_within(table, k, size, sift::LIVE, &blocks, live);
-    strays_within(table, k, size, &blocks)
+    let blocks = touched_blocks(stretch);
+    stretch.list_within(sift::LIVE, &blocks, live);
+    strays_within(stretch, &blocks)
 }
 
 // Whether record k is sound and alone, as those below it are; it is marked if it is.
@@ -187,18 +183,17 @@ fn is_record_fit(table: &[u32], k: usize, bounds: Bounds, marks: &mut Marks) -> 
 }
 
 // Whether the records of a stretch are sound and alone, as those below it are; its live ones are marked.
-fn is_stretch_fit(table: &[u32], k: usize, end: usize, bounds: Bounds, marks: &mut Marks) -> bool
-    requires stretch { Stretch table.now k end }
-    requires fit_so_far { FitSoFar (sound_by bounds) (cells_of table.now) marks.old.sets k }
-    ensures { FitTo (sound_by bounds) (cells_of table.now) marks.new.sets end result }
+fn is_stretch_fit(stretch: Stretch<'_>, bounds: Bounds, marks: &mut Marks) -> bool
+    requires { FitSoFar (sound_by bounds) (cells_of stretch.table.now) marks.old.sets stretch.start }
+    ensures { FitTo (sound_by bounds) (cells_of stretch.entry.table.now) marks.new.sets stretch.entry.end result }
 {
     let mut live = Numbers::none();
-    let strays = list_live(table, k, end, &mut live);
+    let strays = list_live(stretch, &mut live);
     if strays != 0 {
         return false;
     }
     for x in live.as_slice() {
-        if !is_record_fit(table, k + usize::from(*x), bounds, marks) {
+        if !is_record_fit(stretch.table, stretch.start + usize::from(*x), bounds, marks) {
             return false;
         }
     }
@@ -209,13 +204,12 @@ fn is_stretch_fit(table: &[u32], k: usize, end: usize, bounds: Bounds, marks: &m
 pub fn is_fit(table: &[u32], ports: u32, t: Slot) -> bool
     ensures { result ≡ fit ports t (cells_of table.now) }
 {
-    let n = table::record_count(table);
     let bounds = Bounds { ports, next: t };
     let mut marks = Marks {
         sets: [PortSet::default(); MARK_ROWS as usize],
     };
-    for k in (0..n).step_by(STRETCH) {
-        if !is_stretch_fit(table, k, sift::stretch_end(k, n), bounds, &mut marks) {
+    for stretch in sift::stretches(table) {
+        if !is_stretch_fit(stretch, bounds, &mut marks) {
             return false;
         }
     }

@@ -1,3 +1,4 @@
 pub mod Lists
 pub mod Stretch
+pub mod Stretches
 pub mod Walk

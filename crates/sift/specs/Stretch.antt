@@ -36,14 +36,18 @@ abbrev pub live_bits : ℕ
 live_bits = 4294967295
 
 -- the records from k to `end` are a stretch of the table
-pub record Stretch (ws : List ℕ) (k end : ℕ) : Type 0 where
+pub record IsStretch (ws : List ℕ) (k end : ℕ) : Type 0 where
   pub forth : k ≤ end
   pub inside : end ≤ records ws
   pub short : end ≤ k + stretch_size
 
--- and are one up to where `stretch_end` says
-pub stretch_from : {ws : List ℕ} {k n end : ℕ} → k < n → n ≡ records ws → end ≡ min (k + stretch_size) n → Stretch ws k end
+-- and are one up to a stretch's length on, or to the last record
+pub stretch_from : {ws : List ℕ} {k n end : ℕ} → k < n → n ≡ records ws → end ≡ min (k + stretch_size) n → IsStretch ws k end
 stretch_from l r e = record { forth = omega arith; inside = omega arith; short = omega arith }
+
+-- each word is one of 32 bits, so that a place with none of the live bits is 0
+pub record Words (ws : List ℕ) : Type 0 where
+  pub small : (i : ℕ) → get_or ws i 0 ≤ live_bits
 
 -- the place of record x of the stretch that begins at record k has one of `bits`
 unfoldable pub has_bits : List ℕ → ℕ → ℕ → ℕ → Bool
@@ -63,7 +67,7 @@ pub record Listed (ws : List ℕ) (k n bits : ℕ) (list : List ℕ) (m : ℕ) :
 
 -- the records from `from` to `end` are a stretch and listed, where all from k on before them lack the bits; it is the last one if it lists none
 pub record NextListed (ws : List ℕ) (k bits from end : ℕ) (list : List ℕ) (m : ℕ) : Type 0 where
-  pub stretch : Stretch ws from end
+  pub stretch : IsStretch ws from end
   pub listed : Listed ws from (end - from) bits list m
   pub forth : k ≤ from
   pub between : (x : ℕ) → k ≤ x → x < from → bit_and (nth (cells_of ws) x).place bits ≡ 0
@@ -124,7 +128,7 @@ module _ {ws : List ℕ} {k n bits : ℕ} {list : List ℕ} {m : ℕ} (d : Liste
 
 -- before turn j: P holds of the records below the next one listed
 pub record Pass (P : ℕ → Type 0) (ws : List ℕ) (k end bits : ℕ) (list : List ℕ) (m j : ℕ) : Type 0 where
-  pub stretch : Stretch ws k end
+  pub stretch : IsStretch ws k end
   pub listed : Listed ws k (end - k) bits list m
   pub turn : j ≤ m
   pub below : P (k + past list j)
@@ -136,7 +140,7 @@ pub record Visit (P : ℕ → Type 0) (ws : List ℕ) (k end : ℕ) (list : List
   pub inside : k + get_or list j 0 < records ws
   pub below : P (k + get_or list j 0)
 
-pub pass_begins : {P : ℕ → Type 0} {ws : List ℕ} {k end bits : ℕ} {list : List ℕ} {m : ℕ} → Stretch ws k end → Listed ws k (end - k) bits list m → P k
+pub pass_begins : {P : ℕ → Type 0} {ws : List ℕ} {k end bits : ℕ} {list : List ℕ} {m : ℕ} → IsStretch ws k end → Listed ws k (end - k) bits list m → P k
     → Pass P ws k end bits list m 0
 pass_begins {k = k} s d p = record { stretch = s; listed = d; turn = omega arith; below = rw (add-zero k) p }
 

@@ -2,9 +2,9 @@
 
 ghost use Rattle.std.specs.Prelude.{◌≤◌, ◌-◌};
 ghost use Rattle.rules.specs.Cells.{records};
-ghost use Rattle.sift.specs.Stretch.{Stretch, Listed, NextListed};
+ghost use Rattle.sift.specs.Stretch.{IsStretch, Listed, NextListed};
 
-use crate::{Numbers, STRETCH, sift_records, stretch_end};
+use crate::{Numbers, STRETCH, Stretches};
 use std::ops::Range;
 
 // The stretch at hand begins with record `from` and ends before record `end`; `turn` of the records that it lists were given.
@@ -16,7 +16,7 @@ pub struct Records<'a> {
     end: usize,
     listed: Numbers<STRETCH>,
     turn: usize,
-    ghost stretch: { Stretch table.now from end },
+    ghost stretch: { IsStretch table.now from end },
     ghost are_listed: { Listed table.now from (end - from) bits listed.list listed.count },
     ghost turned: { turn ≤ listed.count },
 }
@@ -54,21 +54,23 @@ impl<'a> Records<'a> {
     }
 }
 
-// Lists the next stretch from record k on that has a record with one of `bits`, and gives where it begins and ends; the last one where none has. It
-// stays a call, so that a turn of the walk is short code.
+// Lists the next stretch from record k on that has a record with one of `bits`, and gives where it begins and ends; where none has, that is behind the
+// last record. It stays a call, so that a turn of the walk is short code.
 #[inline(never)]
+#[tactic(auto, unfolding(rules::specs::Cells::records))]
 fn list_next(table: &[u32], k: usize, bits: u32, listed: &mut Numbers<STRETCH>) -> Range<usize>
     requires { k ≤ records table.now }
     ensures { NextListed table.now k bits result.start result.end listed.new.list listed.new.count }
 {
-    let n = table.len() / rules::RECORD_WORDS;
     listed.clear();
-    let mut next = k..k;
-    while listed.count == 0 && next.end < n {
-        next = next.end..stretch_end(next.end, n);
-        sift_records(table, next.start, next.end, bits, listed);
+    for stretch in Stretches::from(table, k) {
+        stretch.list_with(bits, listed);
+        if listed.count != 0 {
+            return stretch.start..stretch.end;
+        }
     }
-    next
+    let n = table.len() / rules::RECORD_WORDS;
+    n..n
 }
 
 impl<'a> Iterator for Records<'a> {

@@ -1,34 +1,39 @@
 -- A stretch that is not fit settles the table; after the last one every record is sound and alone.
-use Rattle.std.proofs.Common.{◌≡◌, ◌+◌, sym, arith, length}
+use Rattle.std.proofs.Common.{refl, sym, ap, ◌∙◌}
 use Rattle.rules.specs.Cells.{cells_of, fit}
 use Rattle.words.specs.Words.{length-cells_of}
-use Rattle.sift.specs.Stretch.{stretch_size}
 use Rattle.fit_check.specs.Walk.{fit_none}
 use Rattle.fit_check.proofs.is_fit.Goals as goal
 
-pub loop-k-init : goal.loop-k-init
-loop-k-init c = (omega arith, fit_none _ _ _)
+pub loop-stretch-init : goal.loop-stretch-init
+loop-stretch-init c =
+    let i = c.into_iter-stretch-iterator.ensures.into_iter_gives in
+    let d = c.stretches-stretch-items.ensures in
+    record { rest = record { words = rw i d.words; next = refl }; fits = rw (i, d.next) (fit_none _ _ _) }
+
+pub is_stretch_fit-requires : goal.is_stretch_fit-requires
+is_stretch_fit-requires c =
+    let i = c.loop-stretch.invariant in
+    let t = c.in-Some.ensures.steps in
+    rw (t.words ∙ i.rest.words, t.start) i.fits
 
 pub returns-then-not-is_stretch_fit : goal.returns-then-not-is_stretch_fit
 unfolding fit
-returns-then-not-is_stretch_fit c = sym (c.is_stretch_fit.ensures.fails c.if-not-is_stretch_fit.true)
+returns-then-not-is_stretch_fit c =
+    let words = c.in-Some.ensures.steps.words ∙ c.loop-stretch.invariant.rest.words in
+    sym ((rw words at c.is_stretch_fit.ensures).fails c.if-not-is_stretch_fit.true)
 
-pub loop-k-preserved : goal.loop-k-preserved
-loop-k-preserved c =
-    let e : c.stretch_end.result ≡ c.loop-k.k + stretch_size = omega arith in
-    (omega arith, rw e at (c.is_stretch_fit.ensures.fits c.if-not-is_stretch_fit.false))
+pub loop-stretch-preserved : goal.loop-stretch-preserved
+loop-stretch-preserved c =
+    let i = c.loop-stretch.invariant in
+    let t = c.in-Some.ensures.steps in
+    record {
+      rest = record { words = t.goes.words ∙ i.rest.words; next = refl };
+      fits = rw t.goes.next ((rw (t.words ∙ i.rest.words) at c.is_stretch_fit.ensures).fits c.if-not-is_stretch_fit.false);
+    }
 
--- no stretch, and the last one
 pub returns : goal.returns
 unfolding fit
 returns c =
-    let ws = c.args.table.now in
-    let e : c.loop-k.k ≡ length (cells_of ws) = omega (arith, length-cells_of ws) in
-    sym (rw e at c.loop-k.invariant.1.good)
-
-pub returns-else-not-is_stretch_fit : goal.returns-else-not-is_stretch_fit
-unfolding fit
-returns-else-not-is_stretch_fit c =
-    let ws = c.args.table.now in
-    let e : c.stretch_end.result ≡ length (cells_of ws) = omega (arith, length-cells_of ws) in
-    sym (rw e at (c.is_stretch_fit.ensures.fits c.if-not-is_stretch_fit.false).good)
+    let i = c.loop-stretch.invariant in
+    sym (rw (rw i.rest.words at c.in-None.ensures.steps, ← length-cells_of c.args.table.now) at i.fits.good)

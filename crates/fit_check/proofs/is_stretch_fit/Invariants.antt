@@ -8,4 +8,6 @@ use Rattle.fit_check.proofs.is_stretch_fit.Given as goal
 
 abbrev pub invariant-loop-x : goal.invariant-loop-x
 invariant-loop-x l =
-    Pass (FitWithin (sound_by l.bounds) (cells_of l.table) l.k l.end l.marks.sets) l.table l.k l.end live_bits l.x-items (length l.x-items) l.x-index
+    let s = l.stretch in
+    Pass (FitWithin (sound_by l.bounds) (cells_of s.table.now) s.start s.end l.marks.sets) s.table.now s.start s.end live_bits l.x-items (length l.x-items)
+    l.x-index

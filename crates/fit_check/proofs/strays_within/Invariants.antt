@@ -7,4 +7,4 @@ use Rattle.fit_check.specs.Sound.{Strays}
 use Rattle.fit_check.proofs.strays_within.Given as goal
 
 abbrev pub invariant-loop-b : goal.invariant-loop-b
-invariant-loop-b l = Strays (cells_of l.table) l.k (l.k + past l.blocks.list l.b-index * block) l.all
+invariant-loop-b l = Strays (cells_of l.stretch.table.now) l.stretch.start (l.stretch.start + past l.blocks.list l.b-index * block) l.all

@@ -1,41 +1,40 @@
--- A stretch that lists none is passed over.
-use Rattle.std.proofs.Common.{refl, ◌≡◌, ◌-◌, arith}
+-- A stretch that lists none is passed; behind the last record an empty one lists none.
+use Rattle.std.proofs.Common.{◌≡◌, ◌-◌, ◌∙◌, refl, arith}
 use Rattle.rules.specs.Cells.{records}
-use Rattle.sift.specs.Stretch.{listed_none, listed_bare, stretch_from}
+use Rattle.sift.specs.Stretch.{listed_none, listed_bare}
 use Rattle.sift.specs.Walk.{Passed}
 use Rattle.sift.proofs.Passing.{passed_on}
 use Rattle.sift.proofs.walk.list_next.Goals as goal
 
-pub loop-listed-init : goal.loop-listed-init
-loop-listed-init c =
-    let k = c.args.k in
-    let e : k - k ≡ 0 = omega arith in
+pub loop-stretch-preserved : goal.loop-stretch-preserved
+loop-stretch-preserved c =
+    let i = c.loop-stretch.invariant in
+    let t = c.in-Some.ensures.steps in
+    let on = c.next.new.self.next in
+    let words = t.words ∙ i.rest.words in
+    let listed = rw (words, t.start) at c.list_with.ensures in
+    let here : Passed c.args.table.now c.args.bits c.loop-stretch.stretch-iterator.next on = record {
+      forth = omega (arith, t.goes.next, t.start, c.in-Some.stretch.is_stretch.forth);
+      bare = λ x a b. listed_bare listed c.if-listed-ne0.false x a (omega (arith, t.goes.next));
+    } in
     record {
-      stretch = record { forth = omega arith; inside = c.requires; short = omega arith };
-      listed = rw (e, c.clear.ensures) (listed_none _ _ _ _);
-      forth = omega arith;
-      between = λ x a b. absurd (omega arith);
+      rest = record { words = t.goes.words ∙ i.rest.words; next = refl };
+      passed = passed_on i.passed here;
+      none = c.if-listed-ne0.false;
     }
 
-pub sift_records-requires : goal.sift_records-requires
+pub returns : goal.returns
 unfolding records
-sift_records-requires c = stretch_from c.if-next-n.true refl c.stretch_end.ensures
-
-pub loop-listed-preserved : goal.loop-listed-preserved
-unfolding records
-loop-listed-preserved c =
-    let i = c.loop-listed.invariant in
-    let before : Passed c.args.table.now c.args.bits c.args.k c.loop-listed.next.start = record { forth = i.forth; bare = i.between } in
-    let here : Passed c.args.table.now c.args.bits c.loop-listed.next.start c.loop-listed.next.end = record { forth = i.stretch.forth; bare = λ x a b. listed_bare i.listed c.loop-listed-test.true x a (omega arith) } in
+returns c =
+    let i = c.loop-stretch.invariant in
+    let n = records c.args.table.now in
+    let e : c.loop-stretch.stretch-iterator.next ≡ n = rw i.rest.words at c.in-None.ensures.steps in
+    let none : n - n ≡ 0 = omega arith in
+    let passed = rw e at i.passed in
     record {
-      stretch = stretch_from c.if-next-n.true refl c.stretch_end.ensures;
-      listed = c.sift_records.ensures;
-      forth = omega (arith, i.forth, i.stretch.forth);
-      between = (passed_on before here).bare;
+      stretch = record { forth = omega arith; inside = omega arith; short = omega arith };
+      listed = rw (none, i.none) (listed_none _ _ _ _);
+      forth = passed.forth;
+      between = passed.bare;
+      last = λ z. refl;
     }
-
-pub returns-else-next-n : goal.returns-else-next-n
-unfolding records
-returns-else-next-n c =
-    let i = c.loop-listed.invariant in
-    record { stretch = i.stretch; listed = i.listed; forth = i.forth; between = i.between; last = λ z. omega (arith, i.stretch.inside) }

@@ -1,16 +1,12 @@
--- The records before the stretch at hand lack the bits.
-use Rattle.std.proofs.Common.{◌≡◌, ◌≤◌, ◌<◌, ◌-◌, ℕ, bit_and}
-use Rattle.rules.specs.Cells.{nth, cells_of}
-use Rattle.sift.specs.Stretch.{Stretch, Listed}
+-- The records of the stretches that were passed lack the bits, so nothing is listed.
+use Rattle.std.proofs.Common.{◌≡◌}
+use Rattle.sift.specs.Walk.{Passed}
+use Rattle.sift.specs.Stretches.{From}
 use Rattle.sift.proofs.walk.list_next.Given as goal
 
-abbrev pub invariant-loop-listed : goal.invariant-loop-listed
-invariant-loop-listed l = record {
-  stretch : Stretch l.table l.next.start l.next.end;
-  listed : Listed l.table l.next.start (l.next.end - l.next.start) l.bits l.listed.list l.listed.count;
-  forth : l.k ≤ l.next.start;
-  between : (x : ℕ) → l.k ≤ x → x < l.next.start → bit_and (nth (cells_of l.table) x).place l.bits ≡ 0;
+abbrev pub invariant-loop-stretch : goal.invariant-loop-stretch
+invariant-loop-stretch l = record {
+  rest : From l.table l.stretch-iterator.next l.stretch-iterator;
+  passed : Passed l.table l.bits l.k l.stretch-iterator.next;
+  none : l.listed.count ≡ 0;
 }
-
-abbrev pub decreases-loop-listed : goal.decreases-loop-listed
-decreases-loop-listed l = l.n - l.next.end

@@ -3,19 +3,19 @@ use Rattle.std.proofs.Common.{◌≡◌, ◌+◌, ◌*◌, ◌<◌, arith, add-o
 use Rattle.laws.specs.Sifted.{past, blocks_between, blocks-behind}
 use Rattle.sift.specs.Lists.{read_front}
 use Rattle.sift.specs.Stretch.{block, listed_none, listed_skip}
-use Rattle.sift.proofs.sift_within.Goals as goal
+use Rattle.sift.proofs.stretch.Stretch.list_within.Goals as goal
 
 pub loop-b-init : goal.loop-b-init
 loop-b-init c = rw c.clear.ensures (listed_none _ _ _ _)
 
-pub sift_between-requires-clause-listed : goal.sift_between-requires-clause-listed
-sift_between-requires-clause-listed c =
+pub list_between-requires-clause-listed : goal.list_between-requires-clause-listed
+list_between-requires-clause-listed c =
     let j = c.loop-b.b-index in
     let bs = c.args.blocks.now in
     let l : j < bs.count = omega arith in
     let e = read_front bs.list c.as_slice-b-items.ensures.0 l c.from-from.ensures in
-    let r = c.requires.sifted.rising j l in
-    listed_skip c.loop-b.invariant _ (omega (arith, r.0, e)) (rw e (blocks_between block (omega arith) _ c.requires.sifted j l))
+    let r = c.requires.rising j l in
+    listed_skip c.loop-b.invariant _ (omega (arith, r.0, e)) (rw e (blocks_between block (omega arith) _ c.requires j l))
 
 pub loop-b-preserved : goal.loop-b-preserved
 loop-b-preserved c =
@@ -23,9 +23,10 @@ loop-b-preserved c =
     let bs = c.args.blocks.now in
     let e = read_front bs.list c.as_slice-b-items.ensures.0 (omega arith) c.from-from.ensures in
     let q : past bs.list (j + 1) * block ≡ c.from-from.result * block + block = rw (add-one j) (omega (arith, e)) in
-    rw q c.sift_between.ensures
+    rw q c.list_between.ensures
 
-pub sift_between-requires-2-clause-listed : goal.sift_between-requires-2-clause-listed
-sift_between-requires-2-clause-listed c =
+pub list_between-requires-2-clause-listed : goal.list_between-requires-2-clause-listed
+list_between-requires-2-clause-listed c =
     let e : c.loop-b.b-index ≡ c.args.blocks.now.count = omega arith in
-    listed_skip (rw e at c.loop-b.invariant) _ (omega (arith, c.requires.sifted.reach)) (blocks-behind block (omega arith) _ c.requires.sifted)
+    rw c.size-size.ensures
+    (listed_skip (rw e at c.loop-b.invariant) _ (omega (arith, c.requires.reach)) (blocks-behind block (omega arith) _ c.requires))
