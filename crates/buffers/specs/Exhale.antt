@@ -1,7 +1,7 @@
 -- One output's emission, and that the outputs one after the other come to the rules' exhale, where all emit at once.
 -- Assumes nothing.
 use Prim.Native.Nat.{ℕ, ◌+◌, ◌*◌, ◌<◌, ◌≤◌}
-use Rattle.std.specs.Prelude.{◌≡◌, refl, Bool, cond, ◌&&◌, ◌||◌, List, [], ◌∷◌, ltb, length, take, drop, Option, Some, None}
+use Rattle.std.specs.Prelude.{◌≡◌, refl, Bool, cond, ◌&&◌, ◌||◌, List, [], ◌∷◌, ltb, length, take, Option, Some, None}
 use Rattle.std.proofs.Common.{sym, ◌∙◌, subst, ⊎_elim, arith, ext_get_or, ltb-true, ltb-false, lt-ltb, le-ltb}
 use Rattle.std.proofs.Math.Path.{ap, ap₂}
 use Rattle.std.proofs.Math.Bool.{So, true, false}
@@ -24,9 +24,10 @@ use Rattle.ideal.specs.Exhaled.{length-emitted}
 use Rattle.table.specs.Table.{stored}
 use Rattle.buffers.specs.Stores.{length-store_at, nth-store_at}
 
--- the words of an entry: a mark, and what the rules show of a cell behind it
-abbrev pub entry_of : ℕ → Cell → List ℕ
-entry_of mark c = mark ∷ drop 1 (emitted_words (c ∷ []) (Some 0))
+-- the words of an entry, of the cell that is emitted or of none: what the rules show of it
+abbrev pub entry_of : Option Cell → List ℕ
+entry_of (Some c) = emitted_words (c ∷ []) (Some 0)
+entry_of None = emitted_words [] None
 
 -- the words ws of the table and l of the list become vs and m when output o emits
 pub record Emitted (o : Output) (ws l vs m : List ℕ) : Type 0 where
@@ -42,11 +43,11 @@ found_inside ws o k f = rw (length-cells_of ws) at (found-ready (cells_of ws) o 
 
 -- what the code does for output o: nothing found, or record k
 module _ {o : Output} {ws l m : List ℕ} where
-  pub emits_nothing : oldest_ready (cells_of ws) o ≡ None → m ≡ sets l (o.0 * exhaled_width) (entry_of 0 free) → Emitted o ws l ws m
+  pub emits_nothing : oldest_ready (cells_of ws) o ≡ None → m ≡ sets l (o.0 * exhaled_width) (entry_of None) → Emitted o ws l ws m
   emits_nothing f e = record { table = rw f (sym (with_own ws)); list = rw f e }
 
-  pub emits_record : {k : ℕ} {vs : List ℕ} → oldest_ready (cells_of ws) o ≡ Some k → m ≡ sets l (o.0 * exhaled_width) (entry_of 1 (nth (cells_of ws) k))
-      → vs ≡ stored ws k free → Emitted o ws l vs m
+  pub emits_record : {k : ℕ} {vs : List ℕ} → oldest_ready (cells_of ws) o ≡ Some k
+      → m ≡ sets l (o.0 * exhaled_width) (entry_of (Some (nth (cells_of ws) k))) → vs ≡ stored ws k free → Emitted o ws l vs m
   emits_record f e s = record { table = rw f s; list = rw f e }
 
 -- Output by output -----------------------------------------------------------------------------
@@ -84,7 +85,7 @@ module _ (cs : List Cell) (o : ℕ) where
   words_same = go found refl
     where
       go : (x : Option ℕ) → found ≡ x → emitted_words (exhale o cs) x ≡ emitted_words cs x
-      go (Some k) e = let r = found-ready cs (output_of o) k e in ap (entry_of 1) (kept k r.0 r.1)
+      go (Some k) e = let r = found-ready cs (output_of o) k e in ap (λ c. entry_of (Some c)) (kept k r.0 r.1)
       go None e = refl
 
   -- with output o, what it finds is emitted besides

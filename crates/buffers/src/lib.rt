@@ -21,7 +21,7 @@ fn enter(table: &mut [u32], arrivals: &[u32], i: Input, t: Slot, from: usize) ->
     requires arrival_in_bounds { i.0 * arrival_width + arrival_width ≤ length arrivals.now }
     ensures { Entered t arrivals.now i table.old table.new result }
 {
-    let at = i.0 as usize * ARRIVAL_WORDS;
+    let at = usize::from(i) * ARRIVAL_WORDS;
     let Some(output) = arrivals[at].checked_sub(1) else {
         return from;
     };
@@ -51,12 +51,22 @@ pub fn inhale(table: &mut [u32], arrivals: &[u32], ports: u32, t: Slot)
     }
 }
 
-// The words of an exhaled entry: 1 and those of the cell, or 0 and those of a free record.
-fn put_entry(list: &mut [u32], at: usize, mark: u32, c: Cell)
-    requires { at + exhaled_width ≤ length list.old }
-    ensures { list.new ≡ sets list.old at (entry_of mark c) }
+// The words of an exhaled entry: 1 and those of the cell that is emitted, or zeros.
+fn entry_of(emitted: Option<Cell>) -> [u32; EXHALED_WORDS]
+    ensures { result ≡ entry_of emitted }
 {
-    list[at..at + EXHALED_WORDS].copy_from_slice(&[mark, c.input.0, c.entered.0, c.tag]);
+    match emitted {
+        Some(c) => [1, c.input.0, c.entered.0, c.tag],
+        None => [0; EXHALED_WORDS],
+    }
+}
+
+// Puts an entry into the list from word `at` on.
+fn put_entry(list: &mut [u32], at: usize, emitted: Option<Cell>)
+    requires { at + exhaled_width ≤ length list.old }
+    ensures { list.new ≡ sets list.old at (entry_of emitted) }
+{
+    list[at..at + EXHALED_WORDS].copy_from_slice(&entry_of(emitted));
 }
 
 // Output o emits its oldest ready cell, whose record becomes free; or nothing, where its unit holds no cell.
@@ -65,12 +75,12 @@ fn emit(table: &mut [u32], list: &mut [u32], o: Output)
     requires { o.0 * exhaled_width + exhaled_width ≤ length list.old }
     ensures { Emitted o table.old list.old table.new list.new }
 {
-    let at = o.0 as usize * EXHALED_WORDS;
+    let at = usize::from(o) * EXHALED_WORDS;
     let Some(k) = table::oldest_ready(table, o) else {
-        put_entry(list, at, 0, Cell::default());
+        put_entry(list, at, None);
         return;
     };
-    put_entry(list, at, 1, table::cell_at(table, k));
+    put_entry(list, at, Some(table::cell_at(table, k)));
     table::free_record(table, k);
 }
 

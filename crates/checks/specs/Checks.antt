@@ -7,7 +7,12 @@ use Rattle.laws.specs.Tests.{No}
 use Rattle.rules.specs.declared.Refusal.{Refusal}
 use Rattle.rules.specs.declared.Refusal.TheVariants.{BadPorts, BadSpeedup, BadRecords, Unfit, BadLists, NoSuchOutput, ClockSpent, NoRoom}
 use Rattle.rules.specs.Cells.{most_records, is_whole, records}
-use Rattle.rules.specs.Answers.{Answer, is_done, outside}
+use Rattle.rules.specs.Answers.{Answer, Lists, lists, is_done, outside}
+use Rattle.checks.specs.declared.SlotLists.{SlotLists}
+
+-- the rules' lists, of those that are lent
+abbrev pub lists_of : SlotLists → Lists
+lists_of l = lists l.arrivals.now l.matches.now l.exhaled.now
 
 -- "the table has 0 or more than 1,024 records", or its words are no whole records
 unfoldable pub size_unfit : List ℕ → Bool

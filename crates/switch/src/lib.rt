@@ -8,6 +8,7 @@ ghost use Rattle.rules.specs.Calls.{raised, fresh_start, slot, slot_runs};
 ghost use Rattle.ideal.specs.Calls.{Accepted};
 ghost use Rattle.switch.specs.Calls.{SlotRan};
 
+use checks::SlotLists;
 use rules::{Refusal, Switch};
 
 // The switch as its owner holds it.
@@ -47,7 +48,12 @@ impl Crossbar {
         }
             ≡ slot self.old.numbers table.old (lists arrivals.now matches.old exhaled.old) }
     {
-        checks::check_slot(self.numbers, table, arrivals, matches, exhaled)?;
+        let given = SlotLists {
+            arrivals,
+            matches,
+            exhaled,
+        };
+        checks::check_slot(self.numbers, table, given)?;
         self.numbers = run(self.numbers, table, arrivals, matches, exhaled);
         Ok(())
     }
