@@ -7,14 +7,13 @@ ghost use Rattle.rules.specs.Cells.{most_ports, cells_of};
 ghost use Rattle.rules.specs.Phases.{phases};
 ghost use Rattle.rules.specs.Phases.{matches as matches_of};
 ghost use Rattle.words.specs.Words.{with_records};
-ghost use Rattle.queues.specs.Queues.{Ports};
 ghost use Rattle.matching.specs.Ready.{LinedUp, Orderly, Ready, Takeable};
 ghost use Rattle.matching.specs.Picking.{first_candidate, Takes, Picked};
 ghost use Rattle.matching.specs.Rounds.{first_for, first_among, is_servable, Lows, Kept};
 ghost use Rattle.matching.specs.Transfer.{Writable, Written, Transferred};
 
 use ports::{PortSet, Tied};
-use queues::PairQueues;
+use queues::{Pair, PairQueues};
 use rules::{Cell, Input, Output, PORT_COUNT, READY};
 use table::Reading;
 
@@ -26,15 +25,14 @@ struct Taken {
 }
 
 impl Taken {
-    // The ports of a cell are taken too.
-    fn with(self, c: Cell) -> Taken
-        requires { Ports c.input c.output }
-        ensures inputs { Added self.inputs.mask c.input.0 result.inputs.mask }
-        ensures outputs { Added self.outputs.mask c.output.0 result.outputs.mask }
+    // The ports of a pair are taken too.
+    fn with(self, pair: Pair) -> Taken
+        ensures inputs { Added self.inputs.mask pair.input.0 result.inputs.mask }
+        ensures outputs { Added self.outputs.mask pair.output.0 result.outputs.mask }
     {
         Taken {
-            inputs: self.inputs.with(c.input.0),
-            outputs: self.outputs.with(c.output.0),
+            inputs: self.inputs.with(pair.input.0),
+            outputs: self.outputs.with(pair.output.0),
         }
     }
 }
@@ -56,13 +54,15 @@ struct LinedTable<'a> {
 
 impl LinedTable<'_> {
     // Of the waiting cells for an output, at inputs that are not taken, the oldest: a look at the heads.
-    fn first_for(self, inputs: PortSet, o: Output) -> Option<usize>
-        requires { o.0 < most_ports }
-        ensures { result ≡ first_for (has inputs.mask) o.0 (cells_of self.entry.table.now) }
+    fn first_for(self, inputs: PortSet, output: Output) -> Option<usize>
+        requires { output.0 < most_ports }
+        ensures { result ≡ first_for (has inputs.mask) output.0 (cells_of self.entry.table.now) }
     {
         let mut found = None;
-        for i in self.queues.senders(o).except(inputs).iter() {
-            found = table::older_finding(self.table, found, self.queues.head(Input(i), o));
+        for i in self.queues.senders(output).except(inputs).iter() {
+            let input = Input(i);
+            let head = self.queues.head(Pair { input, output });
+            found = table::older_finding(self.table, found, head);
         }
         found
     }
@@ -134,11 +134,12 @@ impl Match {
         requires { Takeable table.old queues.old k }
         ensures { Takes table.old self.old.taken self.old.served k table.new queues.new self.new.taken self.new.served }
     {
-        let c = table::cell_at(table, k);
+        let Cell { input, output, .. } = table::cell_at(table, k);
+        let pair = Pair { input, output };
         table::set_place(table, k, READY);
-        queues.renew(table, c.input, c.output);
-        self.served[usize::from(c.output)] = c.input.0;
-        self.taken = self.taken.with(c);
+        queues.renew(table, pair);
+        self.served[usize::from(output)] = input.0;
+        self.taken = self.taken.with(pair);
     }
 
     // The match words: 1 + the input served at each taken output, lowest first; 0 at the others.

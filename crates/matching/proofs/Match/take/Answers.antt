@@ -3,11 +3,11 @@ use Rattle.matching.specs.Ready.{taken_stale, taken_queues}
 use Rattle.matching.proofs.Match.take.Goals as goal
 
 pub renew-requires : goal.renew-requires
-renew-requires c = taken_stale c.requires c.cell_at-c.ensures c.set_place.ensures
+renew-requires c = taken_stale c.requires c.cell_at.ensures c.set_place.ensures
 
 pub returns : goal.returns
 returns c =
-    let e = c.cell_at-c.ensures in
+    let e = c.cell_at.ensures in
     record {
       table = c.set_place.ensures;
       queues = taken_queues c.requires e c.set_place.ensures c.renew.ensures;
