@@ -147,8 +147,8 @@ impl Match {
 // A table lent for the phases of a slot, with its queues. All phases go by one reading.
 #[derive(Debug, Drop)]
 struct Phases<'a> {
-    table: &'a mut [u32],
     queues: PairQueues,
+    table: &'a mut [u32],
     reading: Reading,
     ports: u32,
 }
