@@ -1,4 +1,5 @@
 pub mod Ready
+pub mod Stays
 pub mod Picking
 pub mod Rounds
 pub mod Transfer

@@ -7,14 +7,14 @@ ghost use Rattle.rules.specs.Cells.{most_ports, cells_of};
 ghost use Rattle.rules.specs.Phases.{phases};
 ghost use Rattle.rules.specs.Phases.{matches as matches_of};
 ghost use Rattle.words.specs.Words.{with_records};
-ghost use Rattle.queues.specs.Queues.{Ports};
 ghost use Rattle.matching.specs.Ready.{LinedUp, Orderly, Ready, Takeable};
 ghost use Rattle.matching.specs.Picking.{first_candidate, Takes, Picked};
 ghost use Rattle.matching.specs.Rounds.{first_for, first_among, is_servable, Lows, Kept};
+ghost use Rattle.matching.specs.Stays.{Stays};
 ghost use Rattle.matching.specs.Transfer.{Writable, Written, Transferred};
 
 use ports::{PortSet, Tied};
-use queues::PairQueues;
+use queues::{Pair, PairQueues};
 use rules::{Cell, Input, Output, PORT_COUNT, READY};
 use table::Reading;
 
@@ -26,15 +26,14 @@ struct Taken {
 }
 
 impl Taken {
-    // The ports of a cell are taken too.
-    fn with(self, c: Cell) -> Taken
-        requires { Ports c.input c.output }
-        ensures inputs { Added self.inputs.mask c.input.0 result.inputs.mask }
-        ensures outputs { Added self.outputs.mask c.output.0 result.outputs.mask }
+    // The ports of a pair are taken too.
+    fn with(self, pair: Pair) -> Taken
+        ensures inputs { Added self.inputs.mask pair.input.0 result.inputs.mask }
+        ensures outputs { Added self.outputs.mask pair.output.0 result.outputs.mask }
     {
         Taken {
-            inputs: self.inputs.with(c.input.0),
-            outputs: self.outputs.with(c.output.0),
+            inputs: self.inputs.with(pair.input.0),
+            outputs: self.outputs.with(pair.output.0),
         }
     }
 }
@@ -56,13 +55,15 @@ struct LinedTable<'a> {
 
 impl LinedTable<'_> {
     // Of the waiting cells for an output, at inputs that are not taken, the oldest: a look at the heads.
-    fn first_for(self, inputs: PortSet, o: Output) -> Option<usize>
-        requires { o.0 < most_ports }
-        ensures { result ≡ first_for (has inputs.mask) o.0 (cells_of self.entry.table.now) }
+    fn first_for(self, inputs: PortSet, output: Output) -> Option<usize>
+        requires { output.0 < most_ports }
+        ensures { result ≡ first_for (has inputs.mask) output.0 (cells_of self.entry.table.now) }
     {
         let mut found = None;
-        for i in self.queues.senders(o).except(inputs).iter() {
-            found = table::older_finding(self.table, found, self.queues.head(Input(i), o));
+        for i in self.queues.senders(output).except(inputs).iter() {
+            let input = Input(i);
+            let head = self.queues.head(Pair { input, output });
+            found = table::older_finding(self.table, found, head);
         }
         found
     }
@@ -129,18 +130,6 @@ struct Match {
 }
 
 impl Match {
-    // The cell of record k becomes ready and takes its ports, and its input is kept at its output; the head of its pair is found anew.
-    fn take(&mut self, table: &mut [u32], queues: &mut PairQueues, k: usize)
-        requires { Takeable table.old queues.old k }
-        ensures { Takes table.old self.old.taken self.old.served k table.new queues.new self.new.taken self.new.served }
-    {
-        let c = table::cell_at(table, k);
-        table::set_place(table, k, READY);
-        queues.renew(table, c.input, c.output);
-        self.served[usize::from(c.output)] = c.input.0;
-        self.taken = self.taken.with(c);
-    }
-
     // The match words: 1 + the input served at each taken output, lowest first; 0 at the others.
     fn write_words(&self, words: &mut [u32])
         requires { Writable self.now.taken.outputs.mask self.now.served (length words.old) }
@@ -155,42 +144,78 @@ impl Match {
     }
 }
 
-// Rounds of picking: the first candidate is taken, again and again, until there is none.
-fn pick(table: &mut [u32], queues: &mut PairQueues, r: Reading, ports: u32) -> Match
-    requires { Ready ports table.old queues.old }
-    ensures { Picked ports r.counts table.old table.new queues.new result.taken result.served }
-{
-    let mut picked = Match {
-        taken: Taken::default(),
-        served: [0; PORT_COUNT],
-    };
-    let mut lows = PortSet::default();
-    'rounds: for _ in 0..ports {
-        let candidate = LinedTable { table, queues }.first_candidate(r, picked.taken, lows);
-        let Some(k) = candidate.found else {
-            break 'rounds;
-        };
-        lows = candidate.lows;
-        picked.take(table, queues, k);
-    }
-    picked
+// A table lent for the phases of a slot, with its queues. All phases go by one reading.
+#[derive(Debug, Drop)]
+struct Phases<'a> {
+    queues: PairQueues,
+    table: &'a mut [u32],
+    reading: Reading,
+    ports: u32,
 }
 
-// One transfer phase, with its match words; answers how many cells moved.
-fn transfer(
-    table: &mut [u32],
-    queues: &mut PairQueues,
-    words: &mut [u32],
-    r: Reading,
-    ports: u32,
-) -> u32
-    requires ready { Ready ports table.old queues.old }
-    requires words_len { length words.old ≡ ports }
-    ensures { Transferred ports r.counts table.old table.new queues.new words.new result }
-{
-    let picked = pick(table, queues, r, ports);
-    picked.write_words(words);
-    picked.taken.outputs.len()
+impl Phases<'_> {
+    // Lent for a look at the heads.
+    fn lined_table(&self) -> LinedTable<'_>
+        requires { LinedUp (cells_of self.now.table.now) self.now.queues }
+        ensures { result.table.now ≡ self.now.table.now }
+    {
+        LinedTable {
+            table: self.table,
+            queues: &self.queues,
+        }
+    }
+
+    // The cell of record k becomes ready and takes its ports, and its input is kept at its output; the head of its pair is found anew.
+    fn take(&mut self, picked: &mut Match, k: usize)
+        requires { Takeable self.old.table.now self.old.queues k }
+        ensures stays { Stays self.old self.new }
+        ensures takes { Takes self.old.table.now picked.old.taken picked.old.served k self.new.table.now self.new.queues picked.new.taken picked.new.served }
+    {
+        let table = &mut *self.table;
+        let Cell { input, output, .. } = table::cell_at(table, k);
+        let pair = Pair { input, output };
+        table::set_place(table, k, READY);
+        self.queues.renew(table, pair);
+        picked.served[usize::from(output)] = input.0;
+        picked.taken = picked.taken.with(pair);
+    }
+
+    // Rounds of picking: the first candidate is taken, again and again, until there is none.
+    fn pick(&mut self) -> Match
+        requires { Ready self.old.ports self.old.table.now self.old.queues }
+        ensures stays { Stays self.old self.new }
+        ensures picked { Picked self.old.ports self.old.reading.counts self.old.table.now self.new.table.now self.new.queues result.taken result.served }
+    {
+        let mut picked = Match {
+            taken: Taken::default(),
+            served: [0; PORT_COUNT],
+        };
+        let mut lows = PortSet::default();
+        let reading = self.reading;
+        'rounds: for _ in 0..self.ports {
+            let candidate = self
+                .lined_table()
+                .first_candidate(reading, picked.taken, lows);
+            let Some(k) = candidate.found else {
+                break 'rounds;
+            };
+            lows = candidate.lows;
+            self.take(&mut picked, k);
+        }
+        picked
+    }
+
+    // One transfer phase, with its match words; answers how many cells moved.
+    fn transfer(&mut self, words: &mut [u32]) -> u32
+        requires ready { Ready self.old.ports self.old.table.now self.old.queues }
+        requires words_len { length words.old ≡ self.old.ports }
+        ensures stays { Stays self.old self.new }
+        ensures transferred { Transferred self.old.ports self.old.reading.counts self.old.table.now self.new.table.now self.new.queues words.new result }
+    {
+        let picked = self.pick();
+        picked.write_words(words);
+        picked.taken.outputs.len()
+    }
 }
 
 // The S transfer phases of a slot by one reading, with all match words. The waiting cells are lined up once, for all of them. Where a phase moves
@@ -201,11 +226,17 @@ pub fn transfers(table: &mut [u32], matches: &mut [u32], r: Reading, ports: u32,
     ensures table_after { table.new ≡ with_records table.old (phases ports r.counts (cells_of table.old) speedup) }
     ensures matches_after { matches.new ≡ matches_of ports r.counts (cells_of table.old) speedup }
 {
-    let mut queues = PairQueues::line_up(table);
+    let queues = PairQueues::line_up(table);
+    let mut phases = Phases {
+        table,
+        queues,
+        reading: r,
+        ports,
+    };
     let mut at = 0;
     for _ in 0..speedup {
         let end = at + ports as usize;
-        let moved = transfer(table, &mut queues, &mut matches[at..end], r, ports);
+        let moved = phases.transfer(&mut matches[at..end]);
         if moved == 0 {
             matches[end..].fill(0);
             return;

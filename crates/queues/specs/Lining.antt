@@ -187,10 +187,10 @@ module _ {table : List ℕ} {k : ℕ} {qs : PairQueues} (j : Joinable table k qs
     heads = heads_new;
   }
 
-  -- the steps of the code: the record read as c, its pair p, the words ms once it is linked, the head x of its pair, the older y
-  module _ {c : Cell} (read : c ≡ nth (cells_of table) k) {p : ℕ} (at : p ≡ pair_of c) {us : PairQueues} (link : us ≡ linked qs p k) where
+  -- the steps of the code: the record read as c, the words us once it is linked, the head x of its pair, the older y
+  module _ {c : Cell} (read : c ≡ nth (cells_of table) k) {us : PairQueues} (link : us ≡ linked qs (pair_of c) k) where
     are_chained : us ≡ chained cs k qs
-    are_chained = link ∙ ap (λ (v : ℕ). linked qs v k) (at ∙ ap pair_of read)
+    are_chained = link ∙ ap (λ (d : Cell). linked qs (pair_of d) k) read
 
     module _ {x : Option ℕ} (head : x ≡ named (head_word us c.input.0 c.output.0)) where
       is_old : x ≡ old_head cs k ms

@@ -7,14 +7,32 @@ ghost use Rattle.laws.specs.Least.{Below};
 ghost use Rattle.laws.specs.First.{first_found};
 ghost use Rattle.rules.specs.Cells.{most_ports, most_records, records, cells_of};
 ghost use Rattle.table.specs.Table.{older_at};
-ghost use Rattle.queues.specs.Layout.{pair, pairs, name_of, named, head_word, senders, wanted, no_queues};
+ghost use Rattle.queues.specs.Layout.{pair, name_of, named, head_word, senders, wanted, no_queues};
+ghost use Rattle.queues.specs.Layout.{pair as pair_number};
 ghost use Rattle.queues.specs.Queues.{Ports, head_of, waiting_at, linked, head_set, joined, lined_up, Lineable, Joinable, Stale};
 
 use ports::PortSet;
-use rules::{Input, MOST_RECORDS, Output, PORT_COUNT};
+use rules::{Cell, Input, MOST_RECORDS, Output, PORT_COUNT};
 
 // How many pairs of input and output there are.
 const PAIRS: usize = PORT_COUNT * PORT_COUNT;
+
+// An input and an output that there are: the cells from the one to the other are one queue.
+#[derive(Clone, Copy, Debug, PartialEq, Eq)]
+pub struct Pair {
+    pub input: Input,
+    pub output: Output,
+    ghost ports: { Ports input output },
+}
+
+impl Pair {
+    // Where the words of a pair stand.
+    fn number(self) -> usize
+        ensures { result ≡ pair self.input.0 self.output.0 }
+    {
+        usize::from(self.input) * PORT_COUNT + usize::from(self.output)
+    }
+}
 
 // For each pair its head, and the top of its chain, its highest record; for each record the next lower one of its chain; for each output the inputs
 // that have a cell for it; and the outputs with such an input, and maybe others. A record is named by its number + 1, and 0 names none.
@@ -46,14 +64,6 @@ fn named(word: u16) -> Option<usize>
     Some(usize::from(k))
 }
 
-// Where the words of a pair stand.
-fn pair_of(i: Input, o: Output) -> usize
-    requires { Ports i o }
-    ensures { result ≡ pair i.0 o.0 }
-{
-    usize::from(i) * PORT_COUNT + usize::from(o)
-}
-
 impl PairQueues {
     // No record has joined yet.
     fn empty() -> PairQueues
@@ -82,11 +92,10 @@ impl PairQueues {
     }
 
     // The head of a pair.
-    pub fn head(&self, i: Input, o: Output) -> Option<usize>
-        requires { Ports i o }
-        ensures { result ≡ named (head_word self.now i.0 o.0) }
+    pub fn head(&self, pair: Pair) -> Option<usize>
+        ensures { result ≡ named (head_word self.now pair.input.0 pair.output.0) }
     {
-        named(self.heads[pair_of(i, o)])
+        named(self.heads[pair.number()])
     }
 
     // The inputs that have a cell for an output.
@@ -106,40 +115,39 @@ impl PairQueues {
 
     // Another head, or none, for a pair. The set of inputs has this one added, or taken out where there is no head.
     #[tactic(auto, unfolding(crate::specs::Queues::head_set))]
-    fn set_head(&mut self, i: Input, o: Output, found: Option<usize>)
-        requires ports { Ports i o }
-        requires below { Below most_records found }
-        ensures { self.new ≡ head_set self.old i.0 o.0 found }
+    fn set_head(&mut self, pair: Pair, found: Option<usize>)
+        requires { Below most_records found }
+        ensures { self.new ≡ head_set self.old pair.input.0 pair.output.0 found }
     {
-        self.heads[pair_of(i, o)] = name_of(found);
-        let inputs = &mut self.senders[usize::from(o)];
+        self.heads[pair.number()] = name_of(found);
+        let inputs = &mut self.senders[usize::from(pair.output)];
         if found.is_some() {
-            *inputs = inputs.with(i.0);
-            self.wanted = self.wanted.with(o.0);
+            *inputs = inputs.with(pair.input.0);
+            self.wanted = self.wanted.with(pair.output.0);
         } else {
-            *inputs = inputs.except(PortSet::of(i.0));
+            *inputs = inputs.except(PortSet::of(pair.input.0));
         }
     }
 
-    // Record k becomes the top of the chain of pair p.
+    // Record k becomes the top of the chain of a pair.
     #[tactic(auto, unfolding(crate::specs::Queues::linked))]
-    fn link(&mut self, p: usize, k: usize)
-        requires p_lt_pairs { p < pairs }
-        requires k_lt_most_records { k < most_records }
-        ensures { self.new ≡ linked self.old p k }
+    fn link(&mut self, pair: Pair, k: usize)
+        requires { k < most_records }
+        ensures { self.new ≡ linked self.old (pair_number pair.input.0 pair.output.0) k }
     {
+        let p = pair.number();
         self.links[k] = self.tops[p];
         self.tops[p] = name_of(Some(k));
     }
 
     // The oldest waiting cell of a pair, looked for along its chain, which ends: each link leads to a lower record.
     #[tactic(auto, using(crate::specs::Chains::down_inside))]
-    fn look(&self, table: &[u32], i: Input, o: Output) -> Option<usize>
-        requires { Stale table.now self.now i o }
-        ensures { result ≡ head_of (cells_of table.now) i.0 o.0 }
+    fn look(&self, table: &[u32], pair: Pair) -> Option<usize>
+        requires { Stale table.now self.now pair.input pair.output }
+        ensures { result ≡ head_of (cells_of table.now) pair.input.0 pair.output.0 }
     {
         let mut found = None;
-        let mut word = self.tops[pair_of(i, o)];
+        let mut word = self.tops[pair.number()];
         while let Some(k) = named(word) {
             found = older_of(table, found, k);
             word = self.links[k];
@@ -148,12 +156,12 @@ impl PairQueues {
     }
 
     // The head of a pair is found anew; the others stand.
-    pub fn renew(&mut self, table: &[u32], i: Input, o: Output)
-        requires { Stale table.now self.old i o }
-        ensures { self.new ≡ head_set self.old i.0 o.0 (head_of (cells_of table.now) i.0 o.0) }
+    pub fn renew(&mut self, table: &[u32], pair: Pair)
+        requires { Stale table.now self.old pair.input pair.output }
+        ensures { self.new ≡ head_set self.old pair.input.0 pair.output.0 (head_of (cells_of table.now) pair.input.0 pair.output.0) }
     {
-        let found = self.look(table, i, o);
-        self.set_head(i, o, found);
+        let found = self.look(table, pair);
+        self.set_head(pair, found);
     }
 
     // Record k joins the queues of the records below it, where it waits.
@@ -166,9 +174,11 @@ impl PairQueues {
         if !c.is_waiting() {
             return;
         }
-        self.link(pair_of(c.input, c.output), k);
-        let found = table::older_finding(table, self.head(c.input, c.output), Some(k));
-        self.set_head(c.input, c.output, found);
+        let Cell { input, output, .. } = c;
+        let pair = Pair { input, output };
+        self.link(pair, k);
+        let older = table::older_finding(table, self.head(pair), Some(k));
+        self.set_head(pair, older);
     }
 }
 

@@ -11,7 +11,7 @@ use Rattle.matching.proofs.LinedTable.first_for.Goals as goal
 
 pub loop-i-init : goal.loop-i-init
 loop-i-init c =
-    let e : c.into_iter-i-iterator.result.left.mask ≡ except_ports (senders c.args.self.queues.now c.args.o.0) c.args.inputs.mask = cc in
+    let e : c.into_iter-i-iterator.result.left.mask ≡ except_ports (senders c.args.self.queues.now c.args.output.0) c.args.inputs.mask = cc in
     rw e (walk_none first-nobody)
 
 pub older_finding-found-requires-clause-a_below : goal.older_finding-found-requires-clause-a_below
@@ -21,13 +21,13 @@ older_finding-found-requires-clause-a_below c =
 pub older_finding-found-requires-clause-b_below : goal.older_finding-found-requires-clause-b_below
 older_finding-found-requires-clause-b_below c =
     head_below_records c.args.self.lined_up _ _ (c.in-Some.ensures {u = tt}).steps.lowest.small c.requires
-    (length-cells_of c.args.self.table.now) _ c.head.ensures
+    (length-cells_of c.args.self.table.now) _ c.head-head.ensures
 
 pub loop-i-preserved : goal.loop-i-preserved
 loop-i-preserved c =
     let v = (c.in-Some.ensures {u = tt}).steps in
     let untaken = except_out (excepted refl) _ (c.loop-i.invariant.part _ v.lowest.inside) in
-    rw (c.older_finding-found.ensures, c.head.ensures, head_read c.args.self.lined_up _ _ v.lowest.small c.requires)
+    rw (c.older_finding-found.ensures, c.head-head.ensures, head_read c.args.self.lined_up _ _ v.lowest.small c.requires)
     (walk_visit v c.loop-i.invariant (λ s f. visit_input _ (cells_of c.args.self.table.now) _ _ untaken f))
 
 -- the walk is over the inputs that have a cell and are not taken

@@ -8,5 +8,5 @@ use Rattle.matching.proofs.LinedTable.first_for.Given as goal
 
 abbrev pub invariant-loop-i : goal.invariant-loop-i
 invariant-loop-i l =
-    Walked (ForOutput (has l.fn.inputs.mask) l.o.0 (cells_of l.self.table.now))
-    (has (except_ports (senders l.self.queues.now l.o.0) l.fn.inputs.mask)) (has l.i-iterator.left.mask) l.found
+    Walked (ForOutput (has l.fn.inputs.mask) l.output.0 (cells_of l.self.table.now))
+    (has (except_ports (senders l.self.queues.now l.output.0) l.fn.inputs.mask)) (has l.i-iterator.left.mask) l.found

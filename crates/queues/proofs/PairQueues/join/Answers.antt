@@ -7,4 +7,4 @@ use Rattle.queues.proofs.PairQueues.join.Goals as goal
 pub returns : goal.returns
 returns c =
     let waits : is_waiting (nth (cells_of c.args.table.now) c.args.k) ≡ true = cc in
-    joined_by c.requires waits c.cell_at-c.ensures c.pair_of.ensures c.link.ensures c.head.ensures c.older_finding-found.ensures c.set_head.ensures
+    joined_by c.requires waits c.cell_at-c.ensures c.link.ensures c.head.ensures c.older_finding-older.ensures c.set_head.ensures

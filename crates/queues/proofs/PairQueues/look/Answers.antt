@@ -5,7 +5,7 @@ use Rattle.queues.specs.Chains.{down_top, down_below, down_less, down_on, down_a
 use Rattle.queues.proofs.PairQueues.look.Goals as goal
 
 pub loop-k-init : goal.loop-k-init
-loop-k-init c = down_top c.requires (ap (top_word c.args.self.now) c.pair_of.ensures)
+loop-k-init c = down_top c.requires (ap (top_word c.args.self.now) c.number.ensures)
 
 pub older_of-found-requires-clause-below : goal.older_of-found-requires-clause-below
 older_of-found-requires-clause-below c = down_below c.loop-k.invariant

@@ -3,7 +3,7 @@ use Rattle.queues.specs.Chains.{Down}
 use Rattle.queues.proofs.PairQueues.look.Given as goal
 
 abbrev pub invariant-loop-k : goal.invariant-loop-k
-invariant-loop-k l = Down l.table l.self l.fn.i l.fn.o l.word l.found
+invariant-loop-k l = Down l.table l.self l.fn.pair.input l.fn.pair.output l.word l.found
 
 abbrev pub decreases-loop-k : goal.decreases-loop-k
 decreases-loop-k l = l.word

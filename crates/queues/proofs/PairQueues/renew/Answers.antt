@@ -5,7 +5,7 @@ use Rattle.rules.specs.Cells.{most_records}
 use Rattle.queues.specs.Heads.{head_fits}
 use Rattle.queues.proofs.PairQueues.renew.Goals as goal
 
-pub set_head-requires-clause-below : goal.set_head-requires-clause-below
-set_head-requires-clause-below c =
+pub set_head-requires : goal.set_head-requires
+set_head-requires c =
     let named : Below most_records c.look-found.result = rw c.look-found.ensures (head_fits c.requires) in
     search rules

@@ -1,7 +1,0 @@
--- After i rounds the table, the taken ports and the inputs served show the cells that i rounds of the rules pick, and the queues are the table's;
--- the outputs kept stay those with the lowest reading.
-use Rattle.matching.specs.Rounds.{AfterRounds}
-use Rattle.matching.proofs.pick.Given as goal
-
-abbrev pub invariant-rounds : goal.invariant-rounds
-invariant-rounds l = AfterRounds l.ports l.r.counts l.fn.table l.table l.queues l.picked.taken l.picked.served l.lows.mask l.counter
