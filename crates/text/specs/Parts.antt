@@ -316,8 +316,8 @@ module _ (piece : List ℕ) (stop : ℕ) (no : No (is_digit stop)) where
   pub empty_taken : (n : Number) (i k : ℕ) → i < k → NumberTaken stop piece (Value 0) i n k → NumberTaken stop piece Empty i n k
   empty_taken n i k h x = taken_as number_step (ends stop) piece (Value 0) Empty n i k h refl x
 
-  pub none-taken : (i k : ℕ) → Upto (ends stop) piece i k → NumberTaken stop piece NoNumber i NoNumber k
-  none-taken i k u = record { place = u; steps = sym (none_stays (part piece i k)) }
+  pub none_taken : (i k : ℕ) → Upto (ends stop) piece i k → NumberTaken stop piece NoNumber i NoNumber k
+  none_taken i k u = record { place = u; steps = sym (none_stays (part piece i k)) }
 
 -- a field ---------------------------------------------------------------------------------------
 

@@ -48,6 +48,7 @@ impl Number {
     }
 
     // The bytes up to `stop`, a space, a newline or the piece's end.
+    #[tactic(auto, using(crate::specs::Parts::upto_further, crate::specs::Parts::empty_taken, crate::specs::Parts::none_taken))]
     pub(crate) fn read(self, piece: &mut Piece<'_>, stop: Stop) -> Number
         ensures taken { NumberTaken stop.byte piece.old.bytes.now self piece.old.next result piece.new.next }
         ensures same_bytes { piece.new.bytes.now ≡ piece.old.bytes.now }
