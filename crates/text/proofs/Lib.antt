@@ -1,3 +1,2 @@
-pub mod Variants
 pub mod Places
 pub mod Reading

@@ -1,11 +1,13 @@
 -- What the code does with the part of a line that a piece of the input has: the steps over its bytes, up to the byte that ends what is read.
 -- Definitions that its contracts cite, then the laws by which parts are joined, and numbers, fields and lines read at once.
 -- Assumes nothing.
-use Rattle.std.specs.Prelude.{ℕ, zero, suc, ◌+◌, ◌≤◌, ◌<◌, ◌≡◌, Bool, true, false, cond, ◌&&◌, ◌||◌, leb, ltb, eqb, nat_lt, drop, Some, None, unwrap_or, position}
+use Rattle.std.specs.Prelude.{ℕ, zero, suc, ◌+◌, ◌≤◌, ◌<◌, ◌≡◌, Bool, true, false, cond, ◌&&◌, ◌||◌, leb, ltb, eqb, nat_lt, drop, Option, Some, None, unwrap_or, position, slice_get}
 use Rattle.std.specs.List.{position_or_len}
+use Rattle.std.specs.Option.{option_eq}
 use Rattle.std.proofs.Math.Path.{refl, sym, ap}
 use Rattle.std.proofs.Common.{◌∙◌, ⊎_elim, arith, add-zero, eqb-true, eq-eqb, ne_eqb, ltb-true, ltb-false, length-drop}
 use Rattle.std.proofs.lemmas.List.{get_or-drop}
+use Rattle.std.proofs.lemmas.Option.{slice_get_within, slice_get-get_or, get_or_from_slice_get}
 use Rattle.std.proofs.lemmas.List.Sums.{prefix_len-le-length, fails_before_first, passes_at_first}
 use Rattle.std.proofs.Math.Bool.{So, not}
 use Rattle.std.proofs.lemmas.Bool.{false≢true}
@@ -31,6 +33,14 @@ ends stop b = eqb b stop || (eqb b space || eqb b newline)
 
 abbrev pub ends_line : ℕ → Bool
 ends_line b = eqb b newline
+
+-- what the byte at a place says, where the piece has one there: whether it is this one, and whether what is read ends
+abbrev pub is_byte : ℕ → Option ℕ → Bool
+is_byte b found = option_eq eqb found (Some b)
+
+abbrev pub is_end : (ℕ → Bool) → Option ℕ → Bool
+is_end end None = true
+is_end end (Some b) = end b
 
 -- every byte between two places passes a test
 pub record Span (p : ℕ → Bool) (piece : List ℕ) (from next : ℕ) : Type 0 where
@@ -120,6 +130,21 @@ upto_first end piece i h = rw first_is (record {
       ∙ passes_at_first end (drop i piece) 0 (omega (arith, length-drop i piece));
 })
 
+-- what ends at the place where it begins, and what goes on
+upto_here : (end : ℕ → Bool) (piece : List ℕ) (i : ℕ) → i ≤ length piece → So (is_end end (slice_get piece i)) → Upto end piece i i
+upto_here end piece i h e = record { span = span_none (λ b. not (end b)) piece i h; here = λ l. rw (slice_get-get_or piece i 0 l) at e }
+
+pub upto_further : (end : ℕ → Bool) (piece : List ℕ) (i k : ℕ) → No (is_end end (slice_get piece i)) → Upto end piece i k → i < k
+upto_further end piece i k h u = go (slice_get piece i) refl (ltb i k) refl
+  where
+    go : (found : Option ℕ) → slice_get piece i ≡ found → (t : Bool) → ltb i k ≡ t → i < k
+    go found e true l = ltb-true i k l
+    go None e false l = absurd (refuted (ap (is_end end) e) h)
+    go (Some b) e false l =
+        let same : k ≡ i = omega (arith, ltb-false i k l, u.span.order) in
+        let passes : So (end b) = rw (get_or_from_slice_get piece i b 0 e) at (rw same at u.here) (slice_get_within piece i b e) in
+        absurd (refuted passes (rw e at h))
+
 -- what is passed and what is taken ---------------------------------------------------------------
 
 module _ {S : Type 0} (step : S → ℕ → S) (p : ℕ → Bool) (piece : List ℕ) where
@@ -149,9 +174,16 @@ module _ {S : Type 0} (step : S → ℕ → S) (p : ℕ → Bool) (piece : List 
   }
 
 module _ {S : Type 0} (step : S → ℕ → S) (end : ℕ → Bool) (piece : List ℕ) where
-  pub taken_none : (s : S) (i : ℕ) → Upto end piece i i → Taken step end piece s i s i
+  taken_none : (s : S) (i : ℕ) → Upto end piece i i → Taken step end piece s i s i
   unfolding fold
   taken_none s i u = record { place = u; steps = rw (part_none piece i) }
+
+  -- nothing is taken where what is read ends already
+  pub taken_here : (s : S) (i : ℕ) → i ≤ length piece → So (is_end end (slice_get piece i)) → Taken step end piece s i s i
+  taken_here s i h e = taken_none s i (upto_here end piece i h e)
+
+  pub taken_still : (s : S) (i k : ℕ) → Upto end piece i k → No (ltb i k) → Taken step end piece s i s k
+  taken_still s i k u h = let e : k ≡ i = omega (arith, u.span.order, ltb-false i k h) in rw e (taken_none s i (rw e at u))
 
   -- a part, and then what is taken from its state
   taken_then : (s m t : S) (i j k : ℕ) → Stepped step (λ b. not (end b)) piece s i m j → Taken step end piece m j t k → Taken step end piece s i t k
@@ -284,8 +316,8 @@ module _ (piece : List ℕ) (stop : ℕ) (no : No (is_digit stop)) where
   pub empty_taken : (n : Number) (i k : ℕ) → i < k → NumberTaken stop piece (Value 0) i n k → NumberTaken stop piece Empty i n k
   empty_taken n i k h x = taken_as number_step (ends stop) piece (Value 0) Empty n i k h refl x
 
-  pub none-taken : (i k : ℕ) → Upto (ends stop) piece i k → NumberTaken stop piece NoNumber i NoNumber k
-  none-taken i k u = record { place = u; steps = sym (none_stays (part piece i k)) }
+  pub none_taken : (i k : ℕ) → Upto (ends stop) piece i k → NumberTaken stop piece NoNumber i NoNumber k
+  none_taken i k u = record { place = u; steps = sym (none_stays (part piece i k)) }
 
 -- a field ---------------------------------------------------------------------------------------
 
@@ -337,9 +369,9 @@ module _ (piece : List ℕ) where
   broken_taken i k u = record { place = u; steps = sym (broken_stays (part piece i k)) }
 
   -- a byte behind a dash
-  pub dash-taken : (f : Field) (i k : ℕ) → i < k → FieldTaken piece NoField i f k → FieldTaken piece Dash i f k
+  pub dash_taken : (f : Field) (i k : ℕ) → i < k → FieldTaken piece NoField i f k → FieldTaken piece Dash i f k
   unfolding field_step
-  dash-taken f i k h x = taken_as field_step (ends space) piece NoField Dash f i k h refl x
+  dash_taken f i k h x = taken_as field_step (ends space) piece NoField Dash f i k h refl x
 
   -- a field begins
   pub start_dash : (f : Field) (i k : ℕ) → i < length piece → get_or piece i 0 ≡ dash → FieldTaken piece Dash (i + 1) f k → FieldTaken piece Start i f k

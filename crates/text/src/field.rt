@@ -1,12 +1,11 @@
 // A field of a slot line: `-`, or an output, a colon and a tag.
 
-ghost use Rattle.std.specs.Prelude.{◌≡◌, slice_get};
+ghost use Rattle.std.specs.Prelude.{◌≡◌};
 ghost use Rattle.text.specs.declared.field.Field.TheVariants.{Start, Dash, Output, Tag, NoField};
-ghost use Rattle.characters.specs.Characters.{colon};
-ghost use Rattle.text.specs.Steps.{field_end, tag_end, is_good};
+ghost use Rattle.text.specs.Steps.{colon_step, field_end, tag_end, is_good};
 ghost use Rattle.text.specs.Parts.{FieldTaken};
 
-use crate::number::Number;
+use crate::number::{Number, Stop};
 use crate::piece::Piece;
 use characters::{COLON, DASH, SPACE};
 
@@ -70,21 +69,16 @@ fn tag_end(word: u32, number: Number) -> Option<Arrival>
 }
 
 // A field that has no byte yet stays so.
-#[tactic(auto, using(crate::specs::Parts::taken_none))]
 fn read_start(piece: &mut Piece<'_>) -> Field
     ensures taken { FieldTaken piece.old.bytes.now Start piece.old.next result piece.new.next }
     ensures same_bytes { piece.new.bytes.now ≡ piece.old.bytes.now }
 {
-    if piece.peek() == Some(DASH) {
-        piece.advance();
-        return read_dash(piece);
-    }
-    let from = piece.next;
-    let field = read_output(Number::Empty, piece);
-    if piece.next == from {
+    if piece.is_at_end(SPACE) {
         Field::Start
+    } else if piece.take(DASH) {
+        read_dash(piece)
     } else {
-        field
+        read_output(Number::Empty, piece)
     }
 }
 
@@ -93,21 +87,20 @@ fn read_output(number: Number, piece: &mut Piece<'_>) -> Field
     ensures taken { FieldTaken piece.old.bytes.now (Output number) piece.old.next result piece.new.next }
     ensures same_bytes { piece.new.bytes.now ≡ piece.old.bytes.now }
 {
-    let output = number.read(piece, COLON);
-    if piece.peek() == Some(COLON) {
-        read_colon(output, piece)
+    let output = number.read(piece, Stop { byte: COLON });
+    if piece.take(COLON) {
+        read_behind_colon(output, piece)
     } else {
         Field::Output(output)
     }
 }
 
-// From the colon on. An output's word is the output + 1, so the largest number is no output.
-fn read_colon(number: Number, piece: &mut Piece<'_>) -> Field
-    requires { slice_get piece.old.bytes.now piece.old.next ≡ Some colon }
-    ensures taken { FieldTaken piece.old.bytes.now (Output number) piece.old.next result piece.new.next }
+// What stands behind a number's colon. An output's word is the output + 1, so the largest number is no output.
+#[tactic(auto, using(std::proofs::lemmas::Bool::Decides::nat_tests), unfolding(crate::specs::Steps::colon_step, crate::specs::Steps::may_lead))]
+fn read_behind_colon(number: Number, piece: &mut Piece<'_>) -> Field
+    ensures taken { FieldTaken piece.old.bytes.now (colon_step number) piece.old.next result piece.new.next }
     ensures same_bytes { piece.new.bytes.now ≡ piece.old.bytes.now }
 {
-    piece.advance();
     match number {
         Number::Value(output) if output <= LARGEST_OUTPUT => {
             read_tag(output + 1, Number::Empty, piece)
@@ -121,21 +114,19 @@ fn read_tag(word: u32, number: Number, piece: &mut Piece<'_>) -> Field
     ensures taken { FieldTaken piece.old.bytes.now (Tag word number) piece.old.next result piece.new.next }
     ensures same_bytes { piece.new.bytes.now ≡ piece.old.bytes.now }
 {
-    Field::Tag(word, number.read(piece, SPACE))
+    Field::Tag(word, number.read(piece, Stop { byte: SPACE }))
 }
 
 // Nothing stands behind a `-`.
-#[tactic(auto, using(crate::specs::Parts::taken_none))]
+#[tactic(auto, using(crate::specs::Parts::taken_still, crate::specs::Parts::broken_taken, crate::specs::Parts::dash_taken))]
 fn read_dash(piece: &mut Piece<'_>) -> Field
     ensures taken { FieldTaken piece.old.bytes.now Dash piece.old.next result piece.new.next }
     ensures same_bytes { piece.new.bytes.now ≡ piece.old.bytes.now }
 {
-    let from = piece.next;
-    let field = read_broken(piece);
-    if piece.next == from {
-        Field::Dash
+    if piece.skip(SPACE) {
+        Field::NoField
     } else {
-        field
+        Field::Dash
     }
 }
 

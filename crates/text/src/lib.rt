@@ -115,11 +115,10 @@ impl SlotReader {
         let mut reader = self;
         loop {
             reader.field = reader.field.read(piece);
-            if piece.peek() != Some(SPACE) {
+            if !piece.take(SPACE) {
                 return reader;
             }
             reader = reader.end_field(words);
-            piece.advance();
         }
     }
 

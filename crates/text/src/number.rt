@@ -10,7 +10,14 @@ ghost use Rattle.text.specs.Parts.{NumberTaken, Grows};
 use crate::piece::Piece;
 use characters::{FIRST_DIGIT, LAST_DIGIT};
 
-// A number as far as it was read.
+// A byte that a number may end at, beside those that end its field.
+#[derive(Clone, Copy, Debug)]
+pub(crate) struct Stop {
+    pub byte: u8,
+    ghost no_digit: { No (is_digit byte) },
+}
+
+// A number as far as it was read. One that has no digit yet is not zero.
 #[derive(Clone, Copy, Debug, PartialEq, Eq)]
 pub enum Number {
     Empty,
@@ -41,16 +48,17 @@ impl Number {
     }
 
     // The bytes up to `stop`, a space, a newline or the piece's end.
-    pub(crate) fn read(self, piece: &mut Piece<'_>, stop: u8) -> Number
-        requires { No (is_digit stop) }
-        ensures taken { NumberTaken stop piece.old.bytes.now self piece.old.next result piece.new.next }
+    #[tactic(auto, using(crate::specs::Parts::upto_further, crate::specs::Parts::empty_taken, crate::specs::Parts::none_taken))]
+    pub(crate) fn read(self, piece: &mut Piece<'_>, stop: Stop) -> Number
+        ensures taken { NumberTaken stop.byte piece.old.bytes.now self piece.old.next result piece.new.next }
         ensures same_bytes { piece.new.bytes.now ≡ piece.old.bytes.now }
     {
         match self {
-            Number::Empty => read_empty(piece, stop),
+            Number::Empty if piece.is_at_end(stop.byte) => Number::Empty,
+            Number::Empty => read_value(0, piece, stop),
             Number::Value(value) => read_value(value, piece, stop),
             Number::NoNumber => {
-                piece.skip(stop);
+                piece.skip(stop.byte);
                 Number::NoNumber
             }
         }
@@ -69,35 +77,16 @@ fn grown(value: u32, byte: u8) -> Number
     u32::try_from(sum).map_or(Number::NoNumber, Number::Value)
 }
 
-// A number that has no digit yet is not zero.
-#[tactic(auto, using(crate::specs::Parts::taken_none, crate::specs::Parts::empty_taken))]
-fn read_empty(piece: &mut Piece<'_>, stop: u8) -> Number
-    requires { No (is_digit stop) }
-    ensures taken { NumberTaken stop piece.old.bytes.now Empty piece.old.next result piece.new.next }
-    ensures same_bytes { piece.new.bytes.now ≡ piece.old.bytes.now }
-{
-    let from = piece.next;
-    let number = read_value(0, piece, stop);
-    if piece.next == from {
-        Number::Empty
-    } else {
-        number
-    }
-}
-
 // What stands between the digits and the number's end makes it none.
-fn read_value(value: u32, piece: &mut Piece<'_>, stop: u8) -> Number
-    requires { No (is_digit stop) }
-    ensures taken { NumberTaken stop piece.old.bytes.now (Value value) piece.old.next result piece.new.next }
+fn read_value(value: u32, piece: &mut Piece<'_>, stop: Stop) -> Number
+    ensures taken { NumberTaken stop.byte piece.old.bytes.now (Value value) piece.old.next result piece.new.next }
     ensures same_bytes { piece.new.bytes.now ≡ piece.old.bytes.now }
 {
     let read = read_digits(value, piece);
-    let behind = piece.next;
-    piece.skip(stop);
-    if piece.next == behind {
-        Number::Value(read)
-    } else {
+    if piece.skip(stop.byte) {
         Number::NoNumber
+    } else {
+        Number::Value(read)
     }
 }
 

@@ -14,8 +14,8 @@ pub struct Piece<'a> {
 }
 
 impl Piece<'_> {
-    ghost use Rattle.std.specs.Prelude.{◌+◌, ◌<◌, slice_get};
-    ghost use Rattle.text.specs.Parts.{Upto};
+    ghost use Rattle.std.specs.Prelude.{◌+◌, ◌<◌, cond, ltb, slice_get};
+    ghost use Rattle.text.specs.Parts.{is_byte, is_end, Upto};
 
     // The first byte that was not taken. At the piece's end there is none.
     pub fn peek(&self) -> Option<u8>
@@ -32,13 +32,36 @@ impl Piece<'_> {
         self.next += 1;
     }
 
-    // Takes the bytes before the first that is `stop` or ends a field.
-    pub(crate) fn skip(&mut self, stop: u8)
+    // Takes the next byte where it is this one: whether it is.
+    pub(crate) fn take(&mut self, byte: u8) -> bool
+        ensures is { result ≡ is_byte byte (slice_get self.old.bytes.now self.old.next) }
+        ensures next { self.new.next ≡ cond result (self.old.next + 1) self.old.next }
+        ensures same_bytes { self.new.bytes.now ≡ self.old.bytes.now }
+    {
+        let taken = self.peek() == Some(byte);
+        if taken {
+            self.advance();
+        }
+        taken
+    }
+
+    // Whether the next byte is `stop` or ends a field, or the piece is at its end.
+    pub(crate) fn is_at_end(&self, stop: u8) -> bool
+        ensures { result ≡ is_end (ends stop) (slice_get self.now.bytes.now self.now.next) }
+    {
+        self.peek().is_none_or(|byte| ends(byte, stop))
+    }
+
+    // Takes the bytes up to there: whether there are any.
+    pub(crate) fn skip(&mut self, stop: u8) -> bool
+        ensures any { result ≡ ltb self.old.next self.new.next }
         ensures place { Upto (ends stop) self.old.bytes.now self.old.next self.new.next }
         ensures same_bytes { self.new.bytes.now ≡ self.old.bytes.now }
     {
         let rest = &self.bytes[self.next..];
-        self.next += end_in(rest, stop).unwrap_or(rest.len());
+        let before = end_in(rest, stop).unwrap_or(rest.len());
+        self.next += before;
+        before > 0
     }
 }
 

@@ -1,12 +1,18 @@
 -- The loop begins with no digit, and takes one more at each turn; it ends at a byte that is not taken.
 -- Assumes nothing.
-use Rattle.std.proofs.Common.{◌≡◌, refl, ◌∙◌, sym}
-use Rattle.text.specs.declared.number.Number.TheVariants.{Value}
-use Rattle.text.specs.Steps.{grown}
+use Rattle.std.proofs.Common.{ℕ, ◌≡◌, refl, ◌∙◌, sym, false}
+use Rattle.text.specs.declared.number.Number.{Number}
+use Rattle.text.specs.declared.number.Number.TheVariants.{Empty, Value, NoNumber}
+use Rattle.text.specs.Steps.{grown, is_value}
 use Rattle.text.specs.Parts.{stepped_none, stepped_more, grown-digit, grown-none}
 use Rattle.text.proofs.Places.{stands, ended}
-use Rattle.text.proofs.Variants.{no_value}
 use Rattle.text.proofs.number.read_digits.Goals as goal
+
+-- what is no value by its variant is none by the test
+no_value : (n : Number) → ((v : ℕ) → n ≡ Value v → ⊥) → is_value n ≡ false
+no_value Empty h = refl
+no_value (Value v) h = absurd (h v refl)
+no_value NoNumber h = refl
 
 pub loop-byte-init : goal.loop-byte-init
 loop-byte-init c = record { digits = stepped_none _ _ _ _ _ c.args.piece.now.inside; same_bytes = refl }

@@ -1,16 +1,17 @@
 -- Where nothing stands between the digits and the number's end, they are the number; otherwise the first byte there makes it none.
 -- Assumes nothing.
-use Rattle.std.proofs.Common.{arith}
+use Rattle.std.proofs.Common.{◌≡◌, ◌∙◌, sym, arith, ltb-true, ltb-false}
 use Rattle.text.specs.Parts.{value_whole, value_none}
 use Rattle.text.proofs.number.read_value.Goals as goal
 
-pub returns-then-piece-behind-clause-taken : goal.returns-then-piece-behind-clause-taken
-returns-then-piece-behind-clause-taken c =
-    let e = c.if-piece-behind.true in
+pub returns-then-skip-clause-taken : goal.returns-then-skip-clause-taken
+returns-then-skip-clause-taken c =
     let u = rw c.read_digits-read.ensures.same_bytes at c.skip.ensures.place in
-    rw e (value_whole _ _ c.requires _ _ _ _ c.read_digits-read.ensures.taken (rw e at u))
+    value_none _ _ c.args.stop.no_digit _ _ _ _ _ c.read_digits-read.ensures.taken u (ltb-true _ _ (sym c.skip.ensures.any ∙ c.if-skip.true))
 
-pub returns-else-piece-behind-clause-taken : goal.returns-else-piece-behind-clause-taken
-returns-else-piece-behind-clause-taken c =
+pub returns-else-skip-clause-taken : goal.returns-else-skip-clause-taken
+returns-else-skip-clause-taken c =
     let u = rw c.read_digits-read.ensures.same_bytes at c.skip.ensures.place in
-    value_none _ _ c.requires _ _ _ _ _ c.read_digits-read.ensures.taken u (omega (arith, u.span.order, c.if-piece-behind.false))
+    let e : c.skip.new.self.next ≡ c.read_digits-read.new.piece.next =
+        omega (arith, u.span.order, ltb-false _ _ (sym c.skip.ensures.any ∙ c.if-skip.false)) in
+    rw e (value_whole _ _ c.args.stop.no_digit _ _ _ _ c.read_digits-read.ensures.taken (rw e at u))

@@ -9,4 +9,4 @@ returns-clause-place c =
     let b = c.args.self.now.bytes.now in
     let n = c.args.self.now.next in
     let rest : take (length b - n) (drop n b) ≡ drop n b = take_all (length b - n) (drop n b) (omega (arith, length-drop n b)) in
-    rw (c.unwrap_or.ensures, c.end_in.ensures, rest) (upto_first _ b n c.args.self.now.inside)
+    rw (c.unwrap_or-before.ensures, c.end_in.ensures, rest) (upto_first _ b n c.args.self.now.inside)
