@@ -1,5 +1,4 @@
 pub mod Ready
-pub mod Stays
 pub mod Picking
 pub mod Rounds
 pub mod Transfer

@@ -10,7 +10,6 @@ ghost use Rattle.words.specs.Words.{with_records};
 ghost use Rattle.matching.specs.Ready.{LinedUp, Orderly, Ready, Takeable};
 ghost use Rattle.matching.specs.Picking.{first_candidate, Takes, Picked};
 ghost use Rattle.matching.specs.Rounds.{first_for, first_among, is_servable, Lows, Kept};
-ghost use Rattle.matching.specs.Stays.{Stays};
 ghost use Rattle.matching.specs.Transfer.{Writable, Written, Transferred};
 
 use ports::{PortSet, Tied};
@@ -144,17 +143,15 @@ impl Match {
     }
 }
 
-// A table lent for the phases of a slot, with its queues. All phases go by one reading.
+// A table lent for the phases of a slot, with its queues.
 #[derive(Debug, Drop)]
 struct Phases<'a> {
     queues: PairQueues,
     table: &'a mut [u32],
-    reading: Reading,
-    ports: u32,
 }
 
 impl Phases<'_> {
-    // Lent for a look at the heads.
+    // Lent on for a look at the heads.
     fn lined_table(&self) -> LinedTable<'_>
         requires { LinedUp (cells_of self.now.table.now) self.now.queues }
         ensures { result.table.now ≡ self.now.table.now }
@@ -168,7 +165,7 @@ impl Phases<'_> {
     // The cell of record k becomes ready and takes its ports, and its input is kept at its output; the head of its pair is found anew.
     fn take(&mut self, picked: &mut Match, k: usize)
         requires { Takeable self.old.table.now self.old.queues k }
-        ensures stays { Stays self.old self.new }
+        ensures same_table { self.new.table.ghost_name ≡ self.old.table.ghost_name }
         ensures takes { Takes self.old.table.now picked.old.taken picked.old.served k self.new.table.now self.new.queues picked.new.taken picked.new.served }
     {
         let table = &mut *self.table;
@@ -181,21 +178,18 @@ impl Phases<'_> {
     }
 
     // Rounds of picking: the first candidate is taken, again and again, until there is none.
-    fn pick(&mut self) -> Match
-        requires { Ready self.old.ports self.old.table.now self.old.queues }
-        ensures stays { Stays self.old self.new }
-        ensures picked { Picked self.old.ports self.old.reading.counts self.old.table.now self.new.table.now self.new.queues result.taken result.served }
+    fn pick(&mut self, r: Reading, ports: u32) -> Match
+        requires { Ready ports self.old.table.now self.old.queues }
+        ensures same_table { self.new.table.ghost_name ≡ self.old.table.ghost_name }
+        ensures picked { Picked ports r.counts self.old.table.now self.new.table.now self.new.queues result.taken result.served }
     {
         let mut picked = Match {
             taken: Taken::default(),
             served: [0; PORT_COUNT],
         };
         let mut lows = PortSet::default();
-        let reading = self.reading;
-        'rounds: for _ in 0..self.ports {
-            let candidate = self
-                .lined_table()
-                .first_candidate(reading, picked.taken, lows);
+        'rounds: for _ in 0..ports {
+            let candidate = self.lined_table().first_candidate(r, picked.taken, lows);
             let Some(k) = candidate.found else {
                 break 'rounds;
             };
@@ -206,13 +200,13 @@ impl Phases<'_> {
     }
 
     // One transfer phase, with its match words; answers how many cells moved.
-    fn transfer(&mut self, words: &mut [u32]) -> u32
-        requires ready { Ready self.old.ports self.old.table.now self.old.queues }
-        requires words_len { length words.old ≡ self.old.ports }
-        ensures stays { Stays self.old self.new }
-        ensures transferred { Transferred self.old.ports self.old.reading.counts self.old.table.now self.new.table.now self.new.queues words.new result }
+    fn transfer(&mut self, words: &mut [u32], r: Reading, ports: u32) -> u32
+        requires ready { Ready ports self.old.table.now self.old.queues }
+        requires words_len { length words.old ≡ ports }
+        ensures same_table { self.new.table.ghost_name ≡ self.old.table.ghost_name }
+        ensures transferred { Transferred ports r.counts self.old.table.now self.new.table.now self.new.queues words.new result }
     {
-        let picked = self.pick();
+        let picked = self.pick(r, ports);
         picked.write_words(words);
         picked.taken.outputs.len()
     }
@@ -227,16 +221,11 @@ pub fn transfers(table: &mut [u32], matches: &mut [u32], r: Reading, ports: u32,
     ensures matches_after { matches.new ≡ matches_of ports r.counts (cells_of table.old) speedup }
 {
     let queues = PairQueues::line_up(table);
-    let mut phases = Phases {
-        table,
-        queues,
-        reading: r,
-        ports,
-    };
+    let mut phases = Phases { queues, table };
     let mut at = 0;
     for _ in 0..speedup {
         let end = at + ports as usize;
-        let moved = phases.transfer(&mut matches[at..end]);
+        let moved = phases.transfer(&mut matches[at..end], r, ports);
         if moved == 0 {
             matches[end..].fill(0);
             return;
