@@ -5,7 +5,7 @@ ghost use Rattle.rules.specs.Cells.{most_ports, most_speedup};
 ghost use Rattle.program.specs.Lent.{lent_table_words, lent_words};
 
 use crate::outcome::put_outcome;
-use crate::{LINE_WORDS, MOST_LENT, Program, TABLE_WORDS};
+use crate::{MOST_LENT, Memory, Program, TABLE_WORDS};
 use arrayvec::ArrayVec;
 use rules::{ARRIVAL_WORDS, EXHALED_WORDS, MOST_SPEEDUP, PORT_COUNT, RECORD_WORDS, Slot, Switch};
 use switch::Crossbar;
@@ -38,13 +38,9 @@ impl Running {
 
     // The fresh start that a first line asks for.
     #[tactic(auto, using(crate::specs::Start::lent_small))]
-    pub(crate) fn begin<const N: usize>(
-        line: FirstLine,
-        table: &mut [u32; TABLE_WORDS],
-        out: &mut ArrayVec<u8, N>,
-    ) -> Program
-        requires { array_vec_len out.old + end_room ≤ N }
-        ensures { Turns (on_numbers line) out.old.items result table.new out.new.items }
+    pub(crate) fn begin<const N: usize>(line: FirstLine, memory: &mut Memory<N>) -> Program
+        requires { array_vec_len memory.old.out + end_room ≤ N }
+        ensures { Turns (on_numbers line) memory.old.out.items result memory.new.table memory.new.out.items }
     {
         let words = lent_words(line.records);
         let mut crossbar = Crossbar {
@@ -54,11 +50,11 @@ impl Running {
                 next: Slot(0),
             },
         };
-        if let Err(refusal) = crossbar.fresh_start(&mut table[..words]) {
-            printing::put_refused(out, refusal.number());
+        if let Err(refusal) = crossbar.fresh_start(&mut memory.table[..words]) {
+            printing::put_refused(&mut memory.out, refusal.number());
             return Program::Over;
         }
-        printing::put_header(out);
+        printing::put_header(&mut memory.out);
         Program::Between(Running { crossbar, words })
     }
 
@@ -67,23 +63,21 @@ impl Running {
         self,
         reader: SlotReader,
         piece: &mut Piece<'_>,
-        table: &mut [u32; TABLE_WORDS],
-        arrivals: &mut [u32; LINE_WORDS],
-        out: &mut ArrayVec<u8, N>,
+        memory: &mut Memory<N>,
     ) -> Program
         requires more { piece.old.next < length piece.old.bytes.now }
-        requires room { array_vec_len out.old + end_room ≤ N }
-        ensures goes { PassGoes end_room piece.old (Within self reader) table.old arrivals.old out.old.items
-            piece.new result table.new arrivals.new out.new.items }
+        requires room { array_vec_len memory.old.out + end_room ≤ N }
+        ensures goes { PassGoes end_room piece.old (Within self reader) memory.old.table memory.old.arrivals memory.old.out.items
+            piece.new result memory.new.table memory.new.arrivals memory.new.out.items }
         ensures further { piece.old.next < piece.new.next }
     {
         let width = self.line_words();
-        let reader = reader.read(piece, &mut arrivals[..width]);
+        let reader = reader.read(piece, &mut memory.arrivals[..width]);
         if piece.next == piece.bytes.len() {
             return Program::Within(self, reader);
         }
         piece.advance();
-        self.end_line(reader, table, arrivals, out)
+        self.end_line(reader, memory)
     }
 
     // How many words of the arrivals a slot line is read into.
@@ -96,23 +90,17 @@ impl Running {
 
     // A slot line's newline.
     #[tactic(auto, using(crate::specs::Turns::turns_unread))]
-    fn end_line<const N: usize>(
-        self,
-        reader: SlotReader,
-        table: &mut [u32; TABLE_WORDS],
-        arrivals: &mut [u32; LINE_WORDS],
-        out: &mut ArrayVec<u8, N>,
-    ) -> Program
-        requires { array_vec_len out.old + end_room ≤ N }
-        ensures { Turns (on_newline (state_of self table.old) (line_of self reader arrivals.old)) out.old.items
-            result table.new out.new.items }
+    fn end_line<const N: usize>(self, reader: SlotReader, memory: &mut Memory<N>) -> Program
+        requires { array_vec_len memory.old.out + end_room ≤ N }
+        ensures { Turns (on_newline (state_of self memory.old.table) (line_of self reader memory.old.arrivals)) memory.old.out.items
+            result memory.new.table memory.new.out.items }
     {
         let width = self.line_words();
-        if !reader.finish(&mut arrivals[..width]) {
-            self.put_end(table, out);
+        if !reader.finish(&mut memory.arrivals[..width]) {
+            self.put_end(&memory.table, &mut memory.out);
             return Program::Over;
         }
-        self.slot(table, &arrivals[..width], out)
+        self.slot(&mut memory.table, &memory.arrivals[..width], &mut memory.out)
     }
 
     // One slot with a line's words, and with two lists of the lengths that go with the numbers. Where it is refused the numbers stay as they were,

@@ -2,8 +2,7 @@
 // What is printed for which input is settled in `program`. Here the bytes come in and go out, in large pieces.
 #![tactic(auto)]
 
-use arrayvec::ArrayVec;
-use program::{LINE_WORDS, Program, TABLE_WORDS};
+use program::{Memory, Program};
 use std::io::{Read, Write};
 use text::Piece;
 
@@ -12,17 +11,8 @@ const PIECE_BYTES: usize = 65536;
 
 fn main(rt: HostRuntime) {
     let mut bytes = [0; PIECE_BYTES];
-    let mut out = ArrayVec::new();
-    let mut table = [0; TABLE_WORDS];
-    let mut arrivals = [0; LINE_WORDS];
-    run(
-        &mut rt.stdin(),
-        &mut rt.stdout(),
-        &mut bytes,
-        &mut out,
-        &mut table,
-        &mut arrivals,
-    );
+    let mut memory = Memory::new();
+    run(&mut rt.stdin(), &mut rt.stdout(), &mut bytes, &mut memory);
 }
 
 // A failed read ends the input as its end would. A proved loop has to end, and nothing says that the input does: so the turns are counted, to a
@@ -31,18 +21,16 @@ fn run<R: Read, W: Write>(
     input: &mut R,
     output: &mut W,
     bytes: &mut [u8; PIECE_BYTES],
-    out: &mut ArrayVec<u8, PIECE_BYTES>,
-    table: &mut [u32; TABLE_WORDS],
-    arrivals: &mut [u32; LINE_WORDS],
+    memory: &mut Memory<PIECE_BYTES>,
 ) {
     let mut program = Program::start();
     for _ in 0..u64::MAX {
         let n = input.read(bytes).unwrap_or(0);
         if n == 0 {
-            end(output, program, table, out);
+            end(output, program, memory);
             return;
         }
-        program = take(output, program, &bytes[..n], out, table, arrivals);
+        program = take(output, program, &bytes[..n], memory);
         if program.is_over() {
             return;
         }
@@ -50,15 +38,10 @@ fn run<R: Read, W: Write>(
 }
 
 // The end of the input: the last lines.
-fn end<W: Write>(
-    output: &mut W,
-    program: Program,
-    table: &[u32; TABLE_WORDS],
-    out: &mut ArrayVec<u8, PIECE_BYTES>,
-) {
-    out.clear();
-    program.finish(table, out);
-    let _ = output.write_all(out);
+fn end<W: Write>(output: &mut W, program: Program, memory: &mut Memory<PIECE_BYTES>) {
+    memory.out.clear();
+    program.finish(memory);
+    let _ = output.write_all(&memory.out);
 }
 
 // Takes a piece of the input, and writes the buffer out where it is full and at the piece's end. A failed write ends the run.
@@ -66,16 +49,14 @@ fn take<W: Write>(
     output: &mut W,
     start: Program,
     bytes: &[u8],
-    out: &mut ArrayVec<u8, PIECE_BYTES>,
-    table: &mut [u32; TABLE_WORDS],
-    arrivals: &mut [u32; LINE_WORDS],
+    memory: &mut Memory<PIECE_BYTES>,
 ) -> Program {
     let mut program = start;
     let mut piece = Piece { bytes, next: 0 };
     while piece.next < piece.bytes.len() {
-        out.clear();
-        program = program.pass(&mut piece, table, arrivals, out);
-        if output.write_all(out).is_err() {
+        memory.out.clear();
+        program = program.pass(&mut piece, memory);
+        if output.write_all(&memory.out).is_err() {
             return Program::Over;
         }
     }

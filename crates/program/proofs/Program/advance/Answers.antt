@@ -9,12 +9,12 @@ pub returns-in-First-clause-goes : goal.returns-in-First-clause-goes
 unfolding coming_by
 returns-in-First-clause-goes g c =
     let step : Steps c.args.piece.now c.advance.new.self = record { bytes = c.advance.ensures.same_bytes; next = c.advance.ensures.next } in
-    rw c.in-First.is (goes_byte _ c.args.arrivals.now c.requires.more refl step c.first_step.ensures (omega arith))
+    rw c.in-First.is (goes_byte _ _ c.requires.more refl step c.first_step.ensures (omega arith))
 
 pub returns-in-Between-clause-goes : goal.returns-in-Between-clause-goes
 returns-in-Between-clause-goes g c =
     let begun = rw c.start.ensures at c.advance-in-Between.ensures.goes in
-    rw c.in-Between.is (goes_begins c.in-Between.running c.told-arrivals c.requires.more begun)
+    rw c.in-Between.is (goes_begins c.in-Between.running (omega arith) c.requires.more begun)
 
 pub returns-in-Over-clause-goes : goal.returns-in-Over-clause-goes
 returns-in-Over-clause-goes g c = rw c.in-Over.is (goes_over _ _ _ _ _ _ refl (omega arith))

@@ -5,9 +5,9 @@ use Rattle.program.proofs.Program.pass.Given as goal
 
 abbrev pub invariant-loop-piece : goal.invariant-loop-piece
 invariant-loop-piece g l = record {
-  idle : l.piece.next ≡ l.fn.piece.next → l.out.items ≡ l.fn.out.items;
-  goes : Goes g.row.N l.fn.piece (stand l.initial.program l.fn.table l.fn.arrivals) l.fn.out.items
-      l.piece (stand l.program l.table l.arrivals) l.out.items;
+  idle : l.piece.next ≡ l.fn.piece.next → l.memory.out.items ≡ l.fn.memory.out.items;
+  goes : Goes g.row.N l.fn.piece (stand l.initial.program l.fn.memory.table l.fn.memory.arrivals) l.fn.memory.out.items
+      l.piece (stand l.program l.memory.table l.memory.arrivals) l.memory.out.items;
 }
 
 abbrev pub decreases-loop-piece : goal.decreases-loop-piece

@@ -10,7 +10,7 @@ use Rattle.program.proofs.running.Running.advance.Goals as goal
 pub returns-then-piece-clause-goes : goal.returns-then-piece-clause-goes
 returns-then-piece-clause-goes g c =
     let width = c.line_words-width.result in
-    let long = length-take-le width c.args.arrivals.now (omega (arith, c.line_words-width.ensures.within, c.told-arrivals)) in
+    let long = length-take-le width c.args.memory.now.arrivals (omega (arith, c.line_words-width.ensures.within)) in
     let came = c.read-reader.auto.words ∙ long ∙ c.line_words-width.ensures.value in
     let took = rw c.line_words-width.ensures.value at c.read-reader.ensures.taken in
     goes_line end_room c.args.self _ _ c.args.reader _ _ _ _ c.args.piece.now _ came took c.read-reader.ensures.same_bytes
@@ -22,13 +22,13 @@ returns-clause-goes g c =
     let a = c.args in
     let q = c.read-reader.new.piece in
     let width = c.line_words-width.result in
-    let long = length-take-le width a.arrivals.now (omega (arith, c.line_words-width.ensures.within, c.told-arrivals)) in
+    let long = length-take-le width a.memory.now.arrivals (omega (arith, c.line_words-width.ensures.within)) in
     let came = c.read-reader.auto.words ∙ long ∙ c.line_words-width.ensures.value in
     let took = rw c.line_words-width.ensures.value at c.read-reader.ensures.taken in
     let same = c.read-reader.ensures.same_bytes in
     let more : q.next < length q.bytes.now = omega (arith, c.if-piece.false, q.inside) in
     let here = eqb-true _ newline (took.place.here (rw same at more)) in
     let ends : get_or q.bytes.now q.next 0 ≡ newline = rw same here in
-    goes_then {n = end_room} (goes_line 0 a.self a.table.now a.arrivals.now a.reader _ _ _ a.out.now.items a.piece.now q came took same)
+    goes_then {n = end_room} (goes_line 0 a.self a.memory.now.table a.memory.now.arrivals a.reader _ _ _ a.memory.now.out.items a.piece.now q came took same)
     (goes_byte newline _ more ends (record { bytes = c.advance.ensures.same_bytes; next = c.advance.ensures.next }) c.end_line.ensures (omega arith))
     (put_size c.end_line.ensures.put)

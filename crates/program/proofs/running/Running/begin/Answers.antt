@@ -19,14 +19,14 @@ unfolding first_text
 returns-in-Err g c =
     let line = c.args.line in
     let w = switch line.ports line.speedup 0 in
-    let own = lent_long _ _ c.args.table.now c.lent_words-words.ensures c.told-table ∙ c.lent_words-words.ensures in
+    let own = lent_long _ _ c.args.memory.now.table c.lent_words-words.ensures (omega arith) ∙ c.lent_words-words.ensures in
     turns_over (rw c.number.ensures at c.put_refused.ensures) (omega arith)
     (λ rest. start_refused_lem w line.records _ own _ c.in-Err.ensures (not_done c.in-Err.refusal) (lines_of rest))
 
 pub invariant_of-result : goal.invariant_of-result
 invariant_of-result g c =
     let line = c.args.line in
-    let own = lent_long _ _ c.args.table.now c.lent_words-words.ensures c.told-table ∙ c.lent_words-words.ensures in
+    let own = lent_long _ _ c.args.memory.now.table c.lent_words-words.ensures (omega arith) ∙ c.lent_words-words.ensures in
     let z = start_sizes (switch line.ports line.speedup 0) line.records _ own _ c.in_default.ensures (ok_done c.in_default.field-0) in
     record { ports = z.0; speedup = z.1; lent = omega (arith, c.lent_words-words.ensures, lent_small line.records) }
 
@@ -35,7 +35,7 @@ unfolding first_text
 returns g c =
     let line = c.args.line in
     let w = switch line.ports line.speedup 0 in
-    let long = lent_long _ _ c.args.table.now c.lent_words-words.ensures c.told-table in
+    let long = lent_long _ _ c.args.memory.now.table c.lent_words-words.ensures (omega arith) in
     turns_between c.put_header.ensures (omega arith)
     (λ rest. start_done w line.records _ (long ∙ c.lent_words-words.ensures) _ c.in_default.ensures (ok_done c.in_default.field-0) (lines_of rest)
     ∙ ap (λ (x : State). header_line ++ slots_text x (lines_of rest)) (sym (state_front _ _ _ _ (c.fresh_start.auto.table ∙ long))))

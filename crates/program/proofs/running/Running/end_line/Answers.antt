@@ -7,8 +7,8 @@ use Rattle.program.proofs.running.Running.end_line.Goals as goal
 pub returns : goal.returns
 returns g c =
     let width = c.line_words-width.result in
-    let line = take width c.args.arrivals.now in
-    let long = length-take-le width c.args.arrivals.now (omega (arith, c.line_words-width.ensures.within, c.told-arrivals)) in
+    let line = take width c.args.memory.now.arrivals in
+    let long = length-take-le width c.args.memory.now.arrivals (omega (arith, c.line_words-width.ensures.within)) in
     let s = line_state_of c.args.reader line in
     let complete : is_complete (end_field s) ≡ true = cc in
     rw (← c.line_words-width.ensures.value)
