@@ -117,7 +117,7 @@ impl Program {
     pub fn finish<const N: usize>(self, memory: &mut Memory<N>)
         requires { array_vec_len memory.old.out + end_room ≤ N }
         ensures ends { Put end_room memory.old.out.items (closing self memory.old.table) memory.new.out.items }
-        ensures kept { memory.new.table ≡ memory.old.table }
+        ensures kept { (memory.new.table ≡ memory.old.table) × (memory.new.arrivals ≡ memory.old.arrivals) }
     {
         match self {
             Program::First(_) => printing::put_unreadable(&mut memory.out),
