@@ -146,8 +146,8 @@ impl Match {
 // A table lent for the phases of a slot, with its queues.
 #[derive(Debug, Drop)]
 struct Phases<'a> {
-    queues: PairQueues,
     table: &'a mut [u32],
+    queues: PairQueues,
 }
 
 impl Phases<'_> {
@@ -221,7 +221,7 @@ pub fn transfers(table: &mut [u32], matches: &mut [u32], r: Reading, ports: u32,
     ensures matches_after { matches.new ≡ matches_of ports r.counts (cells_of table.old) speedup }
 {
     let queues = PairQueues::line_up(table);
-    let mut phases = Phases { queues, table };
+    let mut phases = Phases { table, queues };
     let mut at = 0;
     for _ in 0..speedup {
         let end = at + ports as usize;
