@@ -73,10 +73,10 @@ fn read_start(piece: &mut Piece<'_>) -> Field
     ensures taken { FieldTaken piece.old.bytes.now Start piece.old.next result piece.new.next }
     ensures same_bytes { piece.new.bytes.now ≡ piece.old.bytes.now }
 {
-    if piece.is_at_end(SPACE) {
-        Field::Start
-    } else if piece.take(DASH) {
+    if piece.take(DASH) {
         read_dash(piece)
+    } else if piece.is_at_end(SPACE) {
+        Field::Start
     } else {
         read_output(Number::Empty, piece)
     }

@@ -14,8 +14,8 @@ returns-then-not-take-clause-taken c =
     let field = rw same at c.read-reader.ensures.taken in
     let none = c.if-not-take.true in
     let other = failed _ _ (c.read-reader.ensures.same_bytes ∙ same) _ _ _ c.take.ensures.is none in
-    rw (c.take.ensures.next, none)
-    (line_taken _ _ _ _ _ (line_field _ _ _ _ _ _ _ _ c.loop-reader.invariant.reached refl field) (λ l. ends-newline _ (other l) (field.place.here l)))
+    let reached = line_field _ _ _ _ _ _ _ _ c.loop-reader.invariant.reached refl field in
+    rw (c.take.ensures.next, none) (line_taken _ _ _ _ _ reached (λ l. ends-newline _ (other l) (field.place.here l)))
 
 pub loop-reader-preserved : goal.loop-reader-preserved
 loop-reader-preserved c =

@@ -13,5 +13,5 @@ pub returns-else-skip-clause-taken : goal.returns-else-skip-clause-taken
 returns-else-skip-clause-taken c =
     let u = rw c.read_digits-read.ensures.same_bytes at c.skip.ensures.place in
     let e : c.skip.new.self.next ≡ c.read_digits-read.new.piece.next =
-        omega (arith, u.span.order, ltb-false _ _ (sym c.skip.ensures.any ∙ c.if-skip.false)) in
+    omega (arith, u.span.order, ltb-false _ _ (sym c.skip.ensures.any ∙ c.if-skip.false)) in
     rw e (value_whole _ _ c.args.stop.no_digit _ _ _ _ c.read_digits-read.ensures.taken (rw e at u))
