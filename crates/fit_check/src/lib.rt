@@ -193,7 +193,8 @@ fn is_stretch_fit(stretch: Stretch<'_>, bounds: Bounds, marks: &mut Marks) -> bo
         return false;
     }
     for x in live.as_slice() {
-        if !is_record_fit(stretch.table, stretch.start + usize::from(*x), bounds, marks) {
+        let k = stretch.start + usize::from(*x);
+        if !is_record_fit(stretch.table, k, bounds, marks) {
             return false;
         }
     }

@@ -1,7 +1,7 @@
 -- A stretch of the table, the records of it whose places have some of the bits that are asked for (the waiting ones, the ready ones or all live
 -- ones), and what a pass over these alone may leave out: records whose places have none of the bits, and whole blocks of them.
 -- Assumes nothing.
-use Rattle.std.specs.Prelude.{ℕ, ◌+◌, ◌-◌, ◌*◌, ◌≤◌, ◌<◌, min, ◌≡◌, Bool, List, eqb, length, get_or, take}
+use Rattle.std.specs.Prelude.{ℕ, ◌+◌, ◌-◌, ◌*◌, ◌≤◌, ◌<◌, ◌≡◌, Bool, List, eqb, length, get_or, take}
 use Rattle.std.proofs.Common.{sym, ◌∙◌, arith, add-one, add-zero}
 use Rattle.std.proofs.Math.Path.{ap}
 use Rattle.std.proofs.Math.Seq.{take-length}
@@ -40,10 +40,6 @@ pub record IsStretch (ws : List ℕ) (k end : ℕ) : Type 0 where
   pub forth : k ≤ end
   pub inside : end ≤ records ws
   pub short : end ≤ k + stretch_size
-
--- and are one up to a stretch's length on, or to the last record
-pub stretch_from : {ws : List ℕ} {k n end : ℕ} → k < n → n ≡ records ws → end ≡ min (k + stretch_size) n → IsStretch ws k end
-stretch_from l r e = record { forth = omega arith; inside = omega arith; short = omega arith }
 
 -- each word is one of 32 bits, so that a place with none of the live bits is 0
 pub record Words (ws : List ℕ) : Type 0 where

@@ -6,7 +6,8 @@ ghost use Rattle.sift.specs.Stretch.{BlockLacks, IsStretch, Words};
 
 use crate::{BLOCK, BLOCKS, Numbers, STRETCH};
 
-// The records from `start` on that stand before `end`. They are numbered from 0 on.
+// The records from `start` on that stand before `end`, numbered from 0 on. That its words are of 32 bits is kept here, since a proof does not hear it
+// of a table that is a part of something.
 #[derive(Clone, Copy, Debug)]
 pub struct Stretch<'a> {
     pub table: &'a [u32],
@@ -63,7 +64,9 @@ impl<'a> Stretch<'a> {
         );
     }
 
-    // Lists the records with one of `bits` in some blocks, and in what is left behind the last block.
+    // Lists the records with one of `bits` in some blocks, and in what is left behind the last block. It is no call, so that the stretch stays in
+    // registers.
+    #[inline(always)]
     pub fn list_within(self, bits: u32, blocks: &Numbers<BLOCKS>, numbers: &mut Numbers<STRETCH>)
         requires { BlocksListed self bits blocks.now.list blocks.now.count }
         ensures { ListedTo self.entry (size_of self.entry) bits numbers.new.list numbers.new.count }

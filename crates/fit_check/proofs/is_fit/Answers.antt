@@ -1,6 +1,6 @@
 -- A stretch that is not fit settles the table; after the last one every record is sound and alone.
-use Rattle.std.proofs.Common.{refl, sym, ap, ◌∙◌}
-use Rattle.rules.specs.Cells.{cells_of, fit}
+use Rattle.std.proofs.Common.{refl, sym, ◌∙◌}
+use Rattle.rules.specs.Cells.{fit}
 use Rattle.words.specs.Words.{length-cells_of}
 use Rattle.fit_check.specs.Walk.{fit_none}
 use Rattle.fit_check.proofs.is_fit.Goals as goal

@@ -1,5 +1,5 @@
 -- The records that are not listed are free, where there are no strays; so a turn begins with all those below its record sound and alone.
-use Rattle.std.proofs.Common.{ℕ, ◌+◌, ◌≤◌, ◌<◌, ◌≡◌, List, true, arith, get_or, bit_and}
+use Rattle.std.proofs.Common.{ℕ, ◌+◌, ◌≤◌, ◌<◌, ◌≡◌, List, true, arith, bit_and}
 use Rattle.ports.specs.declared.PortSet.{PortSet}
 use Rattle.rules.specs.Cells.{nth, records, cells_of}
 use Rattle.sift.specs.Stretch.{live_bits, Words, Pass, Visit, pass_begins, pass_turn, pass_more, pass_ends, listed_front}
@@ -10,8 +10,7 @@ use Rattle.fit_check.proofs.is_stretch_fit.Goals as goal
 
 -- before turn j of the pass, where each word of the table is one of 32 bits
 module _ (bounds : Bounds) {ws : List ℕ} {k end r : ℕ} {ms : List PortSet} {list : List ℕ} {m j : ℕ} (s : Strays (cells_of ws) k end r) (z : r ≡ 0)
-    (words : Words ws)
-    (p : Pass (FitWithin (sound_by bounds) (cells_of ws) k end ms) ws k end live_bits list m j) where
+    (words : Words ws) (p : Pass (FitWithin (sound_by bounds) (cells_of ws) k end ms) ws k end live_bits list m j) where
   -- what holds of the records below x
   abbrev Within : ℕ → Type 0
   Within = FitWithin (sound_by bounds) (cells_of ws) k end ms
@@ -39,8 +38,8 @@ loop-x-preserved c =
     let t = turn c.args.bounds c.list_live-strays.ensures.strays c.if-strays-ne0.false c.args.stretch.words c.loop-x.invariant c.loop-x-test.true in
     pass_more c.loop-x.invariant c.loop-x-test.true (fit_goes_on (omega arith) (rw c.from.ensures at (c.is_record_fit.ensures.fits c.if-not-is_record_fit.false)))
 
-pub overflow_add-stretch : goal.overflow_add-stretch
-overflow_add-stretch c =
+pub overflow_add-k : goal.overflow_add-k
+overflow_add-k c =
     let t = turn c.args.bounds c.list_live-strays.ensures.strays c.if-strays-ne0.false c.args.stretch.words c.loop-x.invariant c.loop-x-test.true in
     record { fits = omega arith }
 

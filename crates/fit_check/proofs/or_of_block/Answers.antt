@@ -1,6 +1,5 @@
 -- The words of the block lie within the table; where their or is 0, its records are free.
-use Rattle.std.proofs.Common.{◌≡◌, ℕ, ◌+◌, ◌*◌, ◌<◌, ◌∙◌, sym, arith}
-use Rattle.rules.specs.Cells.{free, nth, cells_of}
+use Rattle.std.proofs.Common.{◌≡◌, ◌+◌, ◌*◌, ◌∙◌, sym, arith}
 use Rattle.sift.specs.Stretch.{block}
 use Rattle.fit_check.specs.Blocks.{block_inside, block_in_words, zeros-free}
 use Rattle.fit_check.proofs.or_of_block.Goals as goal

@@ -1,7 +1,6 @@
 -- The records of the blocks that are not listed are free, and have no strays.
 use Rattle.std.proofs.Common.{◌≡◌, ◌+◌, ◌*◌, ◌<◌, arith, add-one, get_or}
 use Rattle.laws.specs.Sifted.{past}
-use Rattle.words.specs.Words.{in_words}
 use Rattle.sift.specs.Lists.{read_front}
 use Rattle.sift.specs.Stretch.{block}
 use Rattle.fit_check.specs.Blocks.{free_between, free-behind}
