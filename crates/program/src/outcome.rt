@@ -50,8 +50,7 @@ fn put_output<const N: usize>(slot: u32, output: u32, exhaled: &[u32], out: &mut
     ensures { Put line_bytes out.old.items (cell_text slot exhaled.now output) out.new.items }
 {
     let word = output as usize * EXHALED_WORDS;
-    if exhaled[word] != 0 {
-        let entry = &exhaled[word + 1..word + EXHALED_WORDS];
-        printing::put_cell(out, slot, output, entry);
+    if let [(1..), cell @ ..] = &exhaled[word..word + EXHALED_WORDS] {
+        printing::put_cell(out, slot, output, cell);
     }
 }
