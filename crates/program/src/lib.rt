@@ -1,5 +1,5 @@
 // The program of document 01 without its reading and writing: a state by value that takes the pieces that the input comes in, and puts what
-// is to be printed into a lent vector. Every number printed, refusals too, is an answer of the switch's public calls.
+// is to be printed into the memory that it is lent. Every number printed, refusals too, is an answer of the switch's public calls.
 #![tactic(auto)]
 
 ghost use Rattle.std.specs.Prelude.{◌+◌, ◌≤◌, ◌<◌, ◌≡◌, [], length};

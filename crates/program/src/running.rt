@@ -100,7 +100,8 @@ impl Running {
             self.put_end(&memory.table, &mut memory.out);
             return Program::Over;
         }
-        self.slot(&mut memory.table, &memory.arrivals[..width], &mut memory.out)
+        let words = &memory.arrivals[..width];
+        self.slot(&mut memory.table, words, &mut memory.out)
     }
 
     // One slot with a line's words, and with two lists of the lengths that go with the numbers. Where it is refused the numbers stay as they were,

@@ -47,11 +47,10 @@ fn end<W: Write>(output: &mut W, program: Program, memory: &mut Memory<PIECE_BYT
 // Takes a piece of the input, and writes the buffer out where it is full and at the piece's end. A failed write ends the run.
 fn take<W: Write>(
     output: &mut W,
-    start: Program,
+    mut program: Program,
     bytes: &[u8],
     memory: &mut Memory<PIECE_BYTES>,
 ) -> Program {
-    let mut program = start;
     let mut piece = Piece { bytes, next: 0 };
     while piece.next < piece.bytes.len() {
         memory.out.clear();
