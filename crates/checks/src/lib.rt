@@ -98,7 +98,7 @@ fn check_arrivals(w: Switch, arrivals: &[u32]) -> Result<(), Refusal>
 fn check_clock(w: Switch) -> Result<(), Refusal>
     ensures { result ≡ first_of (clock_checks w) }
 {
-    refuse_if(w.next.0 == LAST_SLOT, Refusal::ClockSpent)
+    refuse_if(w.next == LAST_SLOT, Refusal::ClockSpent)
 }
 
 // Row 8.

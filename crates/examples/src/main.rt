@@ -132,7 +132,7 @@ fn held_tables(rt: &impl Print) -> io::Result<()> {
     run_from(rt, 5, "a full table, no arrivals", &mut full, quiet)?;
     run_from(
         rt,
-        rules::LAST_SLOT,
+        rules::LAST_SLOT.0,
         "the same with t spent",
         &mut full,
         quiet,
@@ -142,7 +142,7 @@ fn held_tables(rt: &impl Print) -> io::Result<()> {
 
 fn last_slots(rt: &impl Print) -> io::Result<()> {
     let mut table = [0u32; THREE];
-    let mut crossbar = crossbar(2, 3, rules::LAST_SLOT - 1);
+    let mut crossbar = crossbar(2, 3, rules::LAST_SLOT.0 - 1);
     run(
         rt,
         &mut crossbar,

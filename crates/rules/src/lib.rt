@@ -4,7 +4,7 @@
 ghost use Rattle.std.specs.Prelude.{◌≡◌, ◌<◌, Err};
 ghost use Rattle.rules.specs.Answers.{number_of};
 ghost use Rattle.rules.specs.Calls.{restarted, raised};
-ghost use Rattle.rules.specs.Cells.{is_free, is_waiting, is_ready, is_ready_for, older, fields, free};
+ghost use Rattle.rules.specs.Cells.{is_free, is_waiting, is_ready, is_ready_for, older};
 
 // The largest numbers; `most_ports` and the others of specs/Cells.antt are the same for contracts.
 pub const MOST_PORTS: u32 = 16;
@@ -12,8 +12,6 @@ pub const MOST_PORTS: u32 = 16;
 pub const MOST_SPEEDUP: u32 = 8;
 
 pub const MOST_RECORDS: usize = 1_024;
-
-pub const LAST_SLOT: u32 = 4_294_967_295;
 
 // How many words a record has, an arrival and an exhaled entry: `width`, `arrival_width` and `exhaled_width` of specs/.
 pub const RECORD_WORDS: usize = 5;
@@ -41,6 +39,9 @@ pub struct Output(pub u32);
 
 #[derive(Clone, Copy, Debug, Default, PartialEq, Eq, PartialOrd, Ord)]
 pub struct Slot(pub u32);
+
+// The last slot that there is: `last_slot`.
+pub const LAST_SLOT: Slot = Slot(4_294_967_295);
 
 // The place of a port in a list that has one for each.
 impl From<Input> for usize {
@@ -108,15 +109,6 @@ impl Cell {
             return self.input < other.input;
         }
         self.entered < other.entered
-    }
-}
-
-// A record as it lies in the table: `fields` of specs/Cells.antt.
-impl From<Cell> for [u32; RECORD_WORDS] {
-    ghost from_gives = { λ c ws. ws ≡ fields c };
-
-    fn from(c: Cell) -> [u32; RECORD_WORDS] {
-        [c.place, c.input.0, c.output.0, c.entered.0, c.tag]
     }
 }
 
