@@ -1,7 +1,7 @@
 // A line as it is made, from its end to its beginning, so that no number's digits are counted first.
 
-ghost use Rattle.std.specs.Prelude.{◌+◌, ◌*◌, ◌<◌, ◌≤◌, ◌≡◌, [], ◌++◌, length};
-ghost use Rattle.printing.specs.Printed.{field, byte_after, numbers_line, field_bytes, line_bytes};
+ghost use Rattle.std.specs.Prelude.{◌+◌, ◌*◌, ◌≤◌, ◌≡◌, [], ◌++◌, length};
+ghost use Rattle.printing.specs.Printed.{field, numbers_line, field_bytes, line_bytes};
 
 use crate::LINE_BYTES;
 use characters::{NEWLINE, SPACE};
@@ -58,16 +58,11 @@ impl Line {
         ensures text { self.new ≡ numbers_line numbers.now ++ self.old }
         ensures size { length self.new ≤ length self.old + length numbers.now * field_bytes }
     {
-        let count = numbers.len();
-        for i in (0..count).rev() {
-            self.prepend(numbers[i], byte_after(i, count));
+        if let [init @ .., last] = numbers {
+            self.prepend(*last, NEWLINE);
+            for number in init.iter().rev() {
+                self.prepend(*number, SPACE);
+            }
         }
     }
-}
-
-fn byte_after(i: usize, count: usize) -> u8
-    requires { i < count }
-    ensures { result ≡ byte_after i count }
-{
-    if i + 1 == count { NEWLINE } else { SPACE }
 }
