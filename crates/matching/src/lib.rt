@@ -1,7 +1,8 @@
 // A transfer phase: rounds of picking by the queues' heads, and the match words; and S phases by one reading.
 #![tactic(auto)]
 
-ghost use Rattle.std.specs.Prelude.{◌≡◌, ◌*◌, ◌<◌, length};
+ghost use Rattle.std.specs.Prelude.{◌≡◌, ◌*◌, ◌<◌, length, IfSome};
+ghost use Rattle.std.specs.Option.{option_map};
 ghost use Rattle.ports.specs.Ports.{has, Added};
 ghost use Rattle.rules.specs.Cells.{most_ports, cells_of};
 ghost use Rattle.rules.specs.Phases.{phases};
@@ -37,10 +38,10 @@ impl Taken {
     }
 }
 
-// What a round finds, and the outputs that it looked at, for the next round.
+// The record that a round finds, and the outputs that it looked at, for the next round.
 #[derive(Clone, Copy, Debug)]
 struct Candidate {
-    found: Option<usize>,
+    record: usize,
     lows: PortSet,
 }
 
@@ -103,21 +104,18 @@ impl LinedTable<'_> {
     // Of the waiting cells that conflict with none picked, the one that stands before the others: for an output with the lowest reading, the oldest.
     // The readings stay through a phase, and what can be served only gets less: the outputs that had the lowest reading have it as long as one of
     // them can be served. Only where none can are others looked for.
-    fn first_candidate(self, r: Reading, taken: Taken, lows: PortSet) -> Candidate
+    fn first_candidate(self, r: Reading, taken: Taken, lows: PortSet) -> Option<Candidate>
         requires { Kept r.counts taken (cells_of self.table.now) lows.mask }
-        ensures first { result.found ≡ first_candidate r.counts (has taken.inputs.mask) (has taken.outputs.mask) (cells_of self.entry.table.now) }
-        ensures kept_next { Kept r.counts taken (cells_of self.entry.table.now) result.lows.mask }
+        ensures first { option_map (λ c. c.record) result ≡ first_candidate r.counts (has taken.inputs.mask) (has taken.outputs.mask) (cells_of self.entry.table.now) }
+        ensures kept_next { IfSome result (λ c. Kept r.counts taken (cells_of self.entry.table.now) c.lows.mask) }
     {
         let kept = lows.except(taken.outputs);
-        let found = self.first_among(taken.inputs, kept);
-        if found.is_some() {
-            return Candidate { found, lows: kept };
+        if let Some(record) = self.first_among(taken.inputs, kept) {
+            return Some(Candidate { record, lows: kept });
         }
         let next = self.lowest_readings(r, taken);
-        Candidate {
-            found: self.first_among(taken.inputs, next),
-            lows: next,
-        }
+        let record = self.first_among(taken.inputs, next)?;
+        Some(Candidate { record, lows: next })
     }
 }
 
@@ -189,12 +187,11 @@ impl Phases<'_> {
         };
         let mut lows = PortSet::default();
         'rounds: for _ in 0..ports {
-            let candidate = self.lined_table().first_candidate(r, picked.taken, lows);
-            let Some(k) = candidate.found else {
+            let Some(candidate) = self.lined_table().first_candidate(r, picked.taken, lows) else {
                 break 'rounds;
             };
             lows = candidate.lows;
-            self.take(&mut picked, k);
+            self.take(&mut picked, candidate.record);
         }
         picked
     }

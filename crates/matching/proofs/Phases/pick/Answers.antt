@@ -10,14 +10,15 @@ rounds-init c =
 
 pub take-requires : goal.take-requires
 take-requires c =
-    rounds_take c.rounds.invariant.rounds (rw c.lined_table.ensures at c.first_candidate-candidate.ensures.first) c.in-Some.is c.requires.orderly
+    let e = rw (c.lined_table.ensures, c.in-Some.is) at c.first_candidate.ensures in
+    rounds_take c.rounds.invariant.rounds e.first refl c.requires.orderly
 
 pub rounds-preserved : goal.rounds-preserved
 rounds-preserved c =
-    let e = rw c.lined_table.ensures at c.first_candidate-candidate.ensures in
+    let e = rw (c.lined_table.ensures, c.in-Some.is) at c.first_candidate.ensures in
     record {
       table = c.take.ensures.same_table ∙ c.rounds.invariant.table;
-      rounds = rounds_more c.rounds.invariant.rounds e.first c.in-Some.is c.requires.orderly c.rounds-test.true e.kept_next c.take.ensures.takes;
+      rounds = rounds_more c.rounds.invariant.rounds e.first refl c.requires.orderly c.rounds-test.true e.kept_next c.take.ensures.takes;
     }
 
 pub returns-after-rounds-clause-picked : goal.returns-after-rounds-clause-picked
@@ -25,4 +26,4 @@ returns-after-rounds-clause-picked c = rounds_all c.rounds.invariant.rounds (ome
 
 pub returns-in_default-clause-picked : goal.returns-in_default-clause-picked
 returns-in_default-clause-picked c =
-    rounds_stop c.rounds.invariant.rounds (rw c.lined_table.ensures at c.first_candidate-candidate.ensures.first) c.in_default.is
+    let e = rw (c.lined_table.ensures, c.in_default.is) at c.first_candidate.ensures in rounds_stop c.rounds.invariant.rounds e.first refl
