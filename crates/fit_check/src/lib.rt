@@ -125,9 +125,7 @@ fn or_of_block(stretch: Stretch<'_>, b: usize) -> u32
 fn touched_blocks(stretch: Stretch<'_>) -> Numbers<BLOCKS>
     ensures { Sifted (BlockFree stretch.entry.table.now stretch.entry.start) result.list result.count (blocks_of stretch.entry) }
 {
-    let mut blocks = Numbers::none();
-    blocks.list_from(0, stretch.size() / BLOCK, |b| or_of_block(stretch, b) != 0);
-    blocks
+    stretch.blocks_where(|b| or_of_block(stretch, b) != 0)
 }
 
 // What stands behind the place of a free record; 0 of a live one.
