@@ -141,11 +141,7 @@ fn strays_among(table: &[u32], from: usize, to: usize) -> u32
     requires { (from ≤ to) × (to ≤ records table.now) }
     ensures { Strays (cells_of table.now) from to result }
 {
-    let mut all = 0;
-    for k in from..to {
-        all |= stray_of(table::cell_at(table, k));
-    }
-    all
+    (from..to).fold(0, |all, k| all | stray_of(table::cell_at(table, k)))
 }
 
 // The same of the records of a stretch of which the touched blocks are listed.

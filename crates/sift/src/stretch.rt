@@ -35,11 +35,10 @@ impl<'a> Stretch<'a> {
         ensures { result ≡ 0 → BlockLacks self.entry.table.now self.entry.start bits b }
     {
         let k = self.start + b * BLOCK;
-        let mut any = 0;
-        for j in 0..BLOCK {
-            any |= self.table[(k + j) * rules::RECORD_WORDS] & bits;
-        }
-        any
+        (0..BLOCK).fold(
+            0,
+            |any, j| any | self.table[(k + j) * rules::RECORD_WORDS] & bits,
+        )
     }
 
     // Lists its blocks that stay. It is no call, so that the test of a block stands in the loop.
