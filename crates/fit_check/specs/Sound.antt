@@ -1,10 +1,14 @@
 -- What a record must meet by itself. This is the one file that looks inside `is_sound`: all that the rest of the check knows of it is that a free
 -- record must be blank. A free record that is not is a stray.
 -- Assumes nothing.
-use Rattle.std.specs.Prelude.{ℕ, ◌+◌, ◌-◌, ◌≤◌, ◌<◌, ◌≡◌, refl, Bool, not, ◌&&◌, List, eqb, ltb}
-use Rattle.std.proofs.Common.{sym, ap, ap₂, ◌∙◌, ⊎_elim, arith, eqb-true, eq-eqb, ne_eqb, ltb-true, ltb-false}
+use Rattle.std.specs.Prelude.{ℕ, ◌+◌, ◌-◌, ◌≤◌, ◌<◌, ◌≡◌, refl, Bool, not, ◌&&◌, List, [], ◌∷◌, ◌++◌, length, get_or, eqb, ltb}
+use Rattle.std.proofs.Common.{sym, ap, ap₂, ◌∙◌, ⊎_elim, arith, eqb-true, eq-eqb, ne_eqb, ltb-true, ltb-false, add-zero}
 use Rattle.std.proofs.Math.Bool.{So}
+use Rattle.std.proofs.Math.ListN.{get_or-append}
 use Rattle.std.specs.Int.Bits.{bit_or, or_zero_l, or_zero_r}
+use Rattle.std.specs.List.{range_with_len}
+use Rattle.std.proofs.lemmas.List.{get_or_push, length_push}
+use Rattle.std.proofs.lemmas.List.FromFn.{length-range_with_len, get_or-range_with_len}
 use Rattle.std.proofs.lemmas.Bool.{eqb-false}
 use Rattle.laws.specs.Bits.{or_none, or_to, or_to-none, none-or_to}
 use Rattle.laws.specs.Tests.{No, both, join, passes, refuted, to_no, denied, deny, same_test, cond_true}
@@ -86,3 +90,26 @@ strays_one cs k r e s = record {
 pub strays_skip : {cs : List Cell} {from k a : ℕ} (to : ℕ) → k ≤ to → Strays cs from k a → ((x : ℕ) → k ≤ x → x < to → nth cs x ≡ free) → Strays cs from to a
 strays_skip {cs} {a = a} to l s h =
     rw (or_zero_r a) at (strays_join {b = 0} l s (record { none = λ e x i j. free_no_stray (nth cs x) (h x i j); some = λ q. absurd (q refl) }))
+
+-- One record after another: of the records whose numbers are listed, where these are the numbers from `from` on, in turn.
+abbrev pub StraysOf : List Cell → ℕ → List ℕ → ℕ → Type 0
+StraysOf cs from xs r = ((i : ℕ) → i < length xs → get_or xs i 0 ≡ from + i) → Strays cs from (from + length xs) r
+
+module _ (cs : List Cell) (from : ℕ) where
+  pub strays_of-none : StraysOf cs from [] 0
+  strays_of-none h = rw (add-zero from) (strays_none cs from)
+
+  pub strays_of-more : (xs : List ℕ) {a : ℕ} → StraysOf cs from xs a → (x r : ℕ) {c : Cell} → c ≡ nth cs x → not (eqb r 0) ≡ is_stray c
+      → StraysOf cs from (xs ++ x ∷ []) (bit_or a r)
+  strays_of-more xs d x r e s h =
+      let more = length_push xs x in
+      let below = d (λ i l. sym (get_or-append xs (x ∷ []) 0 i l) ∙ h i (omega (arith, more))) in
+      let last : x ≡ from + length xs = sym (get_or_push xs x 0 (length xs) refl) ∙ h (length xs) (omega (arith, more)) in
+      let to : from + length (xs ++ x ∷ []) ≡ from + length xs + 1 = omega (arith, more) in
+      rw to (strays_join (omega arith) below (rw last at (strays_one cs x r e s)))
+
+  pub strays_of-range : (to : ℕ) {r : ℕ} → from ≤ to → StraysOf cs from (range_with_len from (to - from)) r → Strays cs from to r
+  strays_of-range to l d =
+      let long = length-range_with_len from (to - from) in
+      let end : from + length (range_with_len from (to - from)) ≡ to = omega (arith, long) in
+      rw end at (d (λ i b. get_or-range_with_len from (to - from) i 0 (omega (arith, long))))

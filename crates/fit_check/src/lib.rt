@@ -125,9 +125,7 @@ fn or_of_block(stretch: Stretch<'_>, b: usize) -> u32
 fn touched_blocks(stretch: Stretch<'_>) -> Numbers<BLOCKS>
     ensures { Sifted (BlockFree stretch.entry.table.now stretch.entry.start) result.list result.count (blocks_of stretch.entry) }
 {
-    let mut blocks = Numbers::none();
-    blocks.list_from(0, stretch.size() / BLOCK, |b| or_of_block(stretch, b) != 0);
-    blocks
+    stretch.blocks_where(|b| or_of_block(stretch, b) != 0)
 }
 
 // What stands behind the place of a free record; 0 of a live one.
@@ -143,11 +141,7 @@ fn strays_among(table: &[u32], from: usize, to: usize) -> u32
     requires { (from ≤ to) × (to ≤ records table.now) }
     ensures { Strays (cells_of table.now) from to result }
 {
-    let mut all = 0;
-    for k in from..to {
-        all |= stray_of(table::cell_at(table, k));
-    }
-    all
+    (from..to).fold(0, |all, k| all | stray_of(table::cell_at(table, k)))
 }
 
 // The same of the records of a stretch of which the touched blocks are listed.

@@ -1,6 +1,6 @@
 -- Numbers listed in one pass, each of which a test that is passed in tells whether it stays.
 -- Assumes nothing.
-use Rattle.std.specs.Prelude.{ℕ, ◌+◌, ◌≤◌, ◌<◌, ◌≡◌, refl, Bool, true, false, cond, List, eqb, length, get_or, set, take}
+use Rattle.std.specs.Prelude.{ℕ, ◌+◌, ◌≤◌, ◌<◌, ◌≡◌, refl, Bool, true, false, cond, List, [], eqb, length, get_or, set, take}
 use Rattle.std.proofs.Common.{ap, ◌∙◌, ⊎_elim, arith, get_or-take, eqb-true, eq-eqb, ne_eqb}
 use Rattle.std.proofs.lemmas.Bool.{eqb-false}
 use Rattle.std.specs.Int.{from_bool}
@@ -63,6 +63,15 @@ module _ {gives : ℕ → Bool → Type 0} where
           let e : p to ≡ b = h to l (omega arith) ∙ also_here b in
           rw e at (chosen_more p (d.chosen p (λ x a k. h x a (omega arith) ∙ also_below b x k) c) i);
     }
+
+  -- a list of none may as well be an empty one
+  pub lists_afresh : {to : ℕ} {old new : List ℕ} {m n : ℕ} → Lists gives 0 to old m new n → m ≡ 0 → Lists gives 0 to [] 0 new n
+  lists_afresh {old = old} d e = record {
+    stays = d.stays;
+    given = d.given;
+    few = λ l. d.few (omega (arith, e));
+    chosen = λ p h c. d.chosen p h (rw e (chosen_none p old));
+  }
 
   -- what is listed of the numbers from 0 on is sifted
   pub lists_sifted : {to : ℕ} {old new : List ℕ} {m n : ℕ} {out : ℕ → Type 0} → Lists gives 0 to old m new n → m ≡ 0

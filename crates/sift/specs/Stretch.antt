@@ -1,13 +1,17 @@
 -- A stretch of the table, the records of it whose places have some of the bits that are asked for (the waiting ones, the ready ones or all live
 -- ones), and what a pass over these alone may leave out: records whose places have none of the bits, and whole blocks of them.
 -- Assumes nothing.
-use Rattle.std.specs.Prelude.{ℕ, ◌+◌, ◌-◌, ◌*◌, ◌≤◌, ◌<◌, ◌≡◌, Bool, List, eqb, length, get_or, take}
+use Rattle.std.specs.Prelude.{ℕ, ◌+◌, ◌-◌, ◌*◌, ◌≤◌, ◌<◌, ◌≡◌, refl, Bool, List, [], ◌∷◌, ◌++◌, eqb, length, get_or, take}
 use Rattle.std.proofs.Common.{sym, ◌∙◌, arith, add-one, add-zero}
 use Rattle.std.proofs.Math.Path.{ap}
 use Rattle.std.proofs.Math.Seq.{take-length}
 use Rattle.std.proofs.Math.Bool.{not}
 use borrow.Author.Tests.{eqb-true, eq-eqb}
-use Rattle.std.specs.Int.Bits.{bit_and}
+use Rattle.std.proofs.Math.ListN.{get_or-append}
+use Rattle.std.proofs.lemmas.List.{get_or_push, length_push}
+use Rattle.std.specs.Int.Bits.{bit_and, bit_or}
+use Rattle.laws.specs.Bits.{or_none}
+use Rattle.laws.specs.Walk.{below_suc}
 use Rattle.laws.specs.Tests.{No, to_so}
 use Rattle.laws.specs.Sifted.{Sifted, Block, Chosen, past, chosen_settled, chosen_none, chosen_skip, chosen_sifted, sifted_as, to_sifted, to_end}
 use Rattle.sift.specs.Lists.{Lists}
@@ -90,6 +94,22 @@ module _ (ws : List ℕ) (k bits : ℕ) where
 
   pub lacks_word : (x : ℕ) → k + x < records ws → bit_and (get_or ws ((k + x) * width) 0) bits ≡ 0 → Lacks ws k bits x
   lacks_word x l e = ap (λ (c : Cell). bit_and c.place bits) (nth-cells_of ws (k + x) l) ∙ e
+
+-- Where r is 0, the words of the places of the listed records, counted from record k on, have none of `bits`; and one record more.
+module _ (ws : List ℕ) (k bits : ℕ) where
+  abbrev pub NoneOf : List ℕ → ℕ → Type 0
+  NoneOf xs r = r ≡ 0 → (i : ℕ) → i < length xs → bit_and (get_or ws ((k + get_or xs i 0) * width) 0) bits ≡ 0
+
+  pub none_of-none : NoneOf [] 0
+  none_of-none e i l = absurd (omega arith)
+
+  pub none_of-more : (xs : List ℕ) {r : ℕ} → NoneOf xs r → (x : ℕ) → NoneOf (xs ++ x ∷ []) (bit_or r (bit_and (get_or ws ((k + x) * width) 0) bits))
+  none_of-more xs {r} d x e i l =
+      let z = or_none r _ e in
+      below_suc (λ (j : ℕ). bit_and (get_or ws ((k + get_or (xs ++ x ∷ []) j 0) * width) 0) bits ≡ 0) (length xs)
+      (λ j m. rw (get_or-append xs (x ∷ []) 0 j m) (d z.0 j m))
+      (rw (get_or_push xs x 0 (length xs) refl) z.1)
+      i (omega (arith, length_push xs x))
 
 -- A pass that lists: where it begins, one record more, and records that it need not look at
 pub listed_none : (ws : List ℕ) (k bits : ℕ) (list : List ℕ) → Listed ws k 0 bits list 0

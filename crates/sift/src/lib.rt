@@ -24,9 +24,7 @@ pub const BLOCK: usize = 8;
 pub const BLOCKS: usize = STRETCH / BLOCK;
 
 // The bits of the places: of waiting cells, of ready ones and of all live ones; `waiting_bit`, `ready_bit` and `live_bits` of specs/.
-pub const WAITING: u32 = rules::WAITING;
-
-pub const READY: u32 = rules::READY;
+pub use rules::{READY, WAITING};
 
 pub const LIVE: u32 = u32::MAX;
 

@@ -1,7 +1,8 @@
 // The stretches of a table, so many records at a time that a number of one fits a byte, and which records of a stretch have some bits in their places.
 
-ghost use Rattle.std.specs.Prelude.{◌≡◌, ◌-◌, ◌<◌, ◌≤◌};
+ghost use Rattle.std.specs.Prelude.{◌≡◌, ℕ, ◌-◌, ◌<◌, ◌≤◌, []};
 ghost use Rattle.rules.specs.Cells.{records};
+ghost use Rattle.sift.specs.Lists.{Lists};
 ghost use Rattle.sift.specs.Stretch.{BlockLacks, IsStretch, Words};
 
 use crate::{BLOCK, BLOCKS, Numbers, STRETCH};
@@ -34,20 +35,28 @@ impl<'a> Stretch<'a> {
         ensures { result ≡ 0 → BlockLacks self.entry.table.now self.entry.start bits b }
     {
         let k = self.start + b * BLOCK;
-        let mut any = 0;
-        for j in 0..BLOCK {
-            any |= self.table[(k + j) * rules::RECORD_WORDS] & bits;
-        }
-        any
+        (0..BLOCK).fold(
+            0,
+            |any, j| any | self.table[(k + j) * rules::RECORD_WORDS] & bits,
+        )
+    }
+
+    // Lists its blocks that stay. It is no call, so that the test of a block stands in the loop.
+    #[inline(always)]
+    pub fn blocks_where<F: Fn(usize) -> bool>(self, stays: F) -> Numbers<BLOCKS>
+        requires { (b : ℕ) → b < blocks_of self → F.pre stays b }
+        ensures { Lists (F.post stays) 0 (blocks_of self.entry) [] 0 result.list result.count }
+    {
+        let mut blocks = Numbers::none();
+        blocks.list_from(0, self.size() / BLOCK, stays);
+        blocks
     }
 
     // Lists the blocks in which some place has one of `bits`.
     fn blocks_with(self, bits: u32) -> Numbers<BLOCKS>
         ensures { BlocksListed self.entry bits result.list result.count }
     {
-        let mut blocks = Numbers::none();
-        blocks.list_from(0, self.size() / BLOCK, |b| self.any_of_block(b, bits) != 0);
-        blocks
+        self.blocks_where(|b| self.any_of_block(b, bits) != 0)
     }
 
     // Lists the records with one of `bits` from number `from` to number `to`, behind those below.

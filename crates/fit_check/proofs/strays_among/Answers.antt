@@ -1,15 +1,18 @@
--- The strays of the records below k.
-use Rattle.std.proofs.Common.{◌≡◌, arith}
-use Rattle.fit_check.specs.Sound.{strays_none, strays_join, strays_one}
+-- The strays of the records that were looked at, one after another.
+use Rattle.std.proofs.Common.{rules, refl, ◌-◌, arith}
+use Rattle.std.proofs.iter.Yields.{nat_range_steps}
+use Rattle.std.proofs.lemmas.Iterator.{YieldsList-from_range}
+use Rattle.std.proofs.lemmas.Fn.{fold_over}
+use Rattle.std.specs.List.{range_with_len}
+use Rattle.rules.specs.Cells.{cells_of}
+use Rattle.fit_check.specs.Sound.{StraysOf, strays_of-none, strays_of-more, strays_of-range}
 use Rattle.fit_check.proofs.strays_among.Goals as goal
-
-pub loop-k-init : goal.loop-k-init
-loop-k-init c = strays_none _ _
-
-pub loop-k-preserved : goal.loop-k-preserved
-loop-k-preserved c = strays_join (omega arith) c.loop-k.invariant (strays_one _ c.loop-k.k _ c.cell_at.ensures c.stray_of-all.ensures)
 
 pub returns : goal.returns
 returns c =
-    let e : c.loop-k.k ≡ c.args.to = omega (arith, c.loop-k.auto.k-end c.requires.0) in
-    rw e at c.loop-k.invariant
+    let cs = cells_of c.args.table.now in
+    let from = c.args.from in
+    strays_of-range cs from c.args.to (omega arith)
+    (fold_over nat_range_steps (λ x. x) _ (StraysOf cs from) _ (λ ys a x b f' j k. let more = strays_of-more cs from ys j x in search rules)
+    (record { start = from; end = c.args.to }) (range_with_len from (c.args.to - from)) _ _
+    (YieldsList-from_range from c.args.to _ refl refl).runs (strays_of-none cs from) c.fold.ensures.ran)
