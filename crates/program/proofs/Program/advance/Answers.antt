@@ -7,6 +7,7 @@ use Rattle.program.specs.Turns.{Steps, goes_byte, goes_over}
 use Rattle.program.proofs.Turns.{goes_begins}
 use Rattle.program.proofs.Program.advance.Goals as goal
 
+-- what stands in an option is settled
 some_same : {a b : ℕ} → Some a ≡ Some b → a ≡ b
 some_same e = cc
 
@@ -15,7 +16,8 @@ unfolding coming_by
 returns-in-First-clause-goes g c =
     let p = c.args.piece.now in
     let q = c.next_byte.new.self in
-    let some : c.next_byte.result ≡ Some (get_or p.bytes.now p.next 0) = c.next_byte.ensures.byte ∙ slice_get-get_or p.bytes.now p.next 0 c.requires.more in
+    let there = slice_get-get_or p.bytes.now p.next 0 c.requires.more in
+    let some : c.next_byte.result ≡ Some (get_or p.bytes.now p.next 0) = c.next_byte.ensures.byte ∙ there in
     let byte : get_or p.bytes.now p.next 0 ≡ c.unwrap-byte.result = some_same (sym some ∙ c.unwrap-byte.ensures) in
     let next : q.next ≡ p.next + 1 = rw some at c.next_byte.ensures.next in
     let step : Steps p q = record { bytes = c.next_byte.ensures.same_bytes; next = next } in
@@ -27,4 +29,7 @@ returns-in-Between-clause-goes g c =
     rw c.in-Between.is (goes_begins c.in-Between.running (omega arith) c.requires.more begun)
 
 pub returns-in-Over-clause-goes : goal.returns-in-Over-clause-goes
-returns-in-Over-clause-goes g c = rw c.in-Over.is (goes_over _ c.args.piece.now c.skip_all.new.self _ _ _ c.skip_all.ensures.same_bytes (omega (arith, c.skip_all.ensures.next, c.args.piece.now.inside)))
+returns-in-Over-clause-goes g c =
+    let p = c.args.piece.now in
+    let a = c.skip_all.ensures in
+    rw c.in-Over.is (goes_over _ p c.skip_all.new.self _ _ _ a.same_bytes (omega (arith, a.next, p.inside)))
