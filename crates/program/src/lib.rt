@@ -83,7 +83,7 @@ impl Program {
         ensures further { piece.old.next < length piece.old.bytes.now → piece.old.next < piece.new.next }
     {
         let mut program = self;
-        while piece.next < piece.bytes.len() && memory.out.remaining_capacity() >= END_ROOM {
+        while !piece.is_empty() && memory.out.remaining_capacity() >= END_ROOM {
             program = program.advance(piece, memory);
         }
         program
@@ -99,14 +99,13 @@ impl Program {
     {
         match self {
             Program::First(reader) => {
-                let byte = piece.bytes[piece.next];
-                piece.advance();
+                let byte = piece.next_byte().unwrap();
                 first_step(reader, byte, memory)
             }
             Program::Between(running) => running.advance(SlotReader::start(), piece, memory),
             Program::Within(running, reader) => running.advance(reader, piece, memory),
             Program::Over => {
-                piece.next = piece.bytes.len();
+                piece.skip_all();
                 Program::Over
             }
         }

@@ -73,7 +73,7 @@ impl Running {
     {
         let width = self.line_words();
         let reader = reader.read(piece, &mut memory.arrivals[..width]);
-        if piece.next == piece.bytes.len() {
+        if piece.is_empty() {
             return Program::Within(self, reader);
         }
         piece.advance();

@@ -8,14 +8,31 @@ use characters::{NEWLINE, SPACE};
 // A piece of the input, and the first of its bytes that was not taken.
 #[derive(Debug, Drop)]
 pub struct Piece<'a> {
-    pub bytes: &'a [u8],
-    pub next: usize,
+    bytes: &'a [u8],
+    next: usize,
     ghost inside: { next ≤ length bytes.now },
 }
 
+impl<'a> Piece<'a> {
+    // None of its bytes was taken yet.
+    pub fn new(bytes: &'a [u8]) -> Piece<'a>
+        ensures start { result.next ≡ 0 }
+        ensures same_bytes { result.bytes.now ≡ bytes.now }
+    {
+        Piece { bytes, next: 0 }
+    }
+}
+
 impl Piece<'_> {
-    ghost use Rattle.std.specs.Prelude.{◌+◌, ◌<◌, cond, ltb, slice_get};
+    ghost use Rattle.std.specs.Prelude.{◌+◌, ◌<◌, cond, eqb, is_some, ltb, slice_get};
     ghost use Rattle.text.specs.Parts.{is_byte, is_end, Upto};
+
+    // Whether every byte was taken.
+    pub fn is_empty(&self) -> bool
+        ensures { result ≡ eqb self.now.next (length self.now.bytes.now) }
+    {
+        self.next == self.bytes.len()
+    }
 
     // The first byte that was not taken. At the piece's end there is none.
     pub fn peek(&self) -> Option<u8>
@@ -30,6 +47,25 @@ impl Piece<'_> {
         ensures same_bytes { self.new.bytes.now ≡ self.old.bytes.now }
     {
         self.next += 1;
+    }
+
+    // Takes the next byte. At the piece's end there is none, and the piece stays there.
+    pub fn next_byte(&mut self) -> Option<u8>
+        ensures byte { result ≡ slice_get self.old.bytes.now self.old.next }
+        ensures next { self.new.next ≡ cond (is_some result) (self.old.next + 1) self.old.next }
+        ensures same_bytes { self.new.bytes.now ≡ self.old.bytes.now }
+    {
+        let byte = self.peek()?;
+        self.advance();
+        Some(byte)
+    }
+
+    // Takes all that is left.
+    pub fn skip_all(&mut self)
+        ensures next { self.new.next ≡ length self.old.bytes.now }
+        ensures same_bytes { self.new.bytes.now ≡ self.old.bytes.now }
+    {
+        self.next = self.bytes.len();
     }
 
     // Takes the next byte where it is this one: whether it is.

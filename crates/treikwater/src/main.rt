@@ -51,8 +51,8 @@ fn take<W: Write>(
     bytes: &[u8],
     memory: &mut Memory<PIECE_BYTES>,
 ) -> Program {
-    let mut piece = Piece { bytes, next: 0 };
-    while piece.next < piece.bytes.len() {
+    let mut piece = Piece::new(bytes);
+    while !piece.is_empty() {
         memory.out.clear();
         program = program.pass(&mut piece, memory);
         if output.write_all(&memory.out).is_err() {

@@ -4,9 +4,9 @@ use Rattle.printing.specs.Prints.{put_size}
 use Rattle.program.specs.Turns.{goes_then}
 use Rattle.program.proofs.Program.pass.Goals as goal
 
-pub loop-piece-preserved : goal.loop-piece-preserved
-loop-piece-preserved g c =
-    let i = c.loop-piece.invariant in
+pub loop-memory-preserved : goal.loop-memory-preserved
+loop-memory-preserved g c =
+    let i = c.loop-memory.invariant in
     let a = c.advance-program.ensures in
     record {
       idle = λ q. absurd (omega (arith, i.goes.order, a.further, q));

@@ -1,5 +1,6 @@
 -- What the reader took is the line's so far; where it stopped before the piece's end, the newline is next.
-use Rattle.std.proofs.Common.{◌∙◌, ◌≡◌, ◌<◌, get_or, length, arith, eqb-true, length-take-le}
+use Rattle.std.proofs.Common.{◌∙◌, ◌≡◌, ◌<◌, get_or, length, arith, sym, eqb-true, length-take-le}
+use Rattle.std.proofs.lemmas.Bool.{eqb-false}
 use Rattle.characters.specs.Characters.{newline}
 use Rattle.printing.specs.Prints.{put_size}
 use Rattle.program.specs.Lent.{end_room}
@@ -7,8 +8,8 @@ use Rattle.program.specs.Coming.{coming_by}
 use Rattle.program.specs.Turns.{goes_byte, goes_line, goes_then}
 use Rattle.program.proofs.running.Running.advance.Goals as goal
 
-pub returns-then-piece-clause-goes : goal.returns-then-piece-clause-goes
-returns-then-piece-clause-goes g c =
+pub returns-then-is_empty-clause-goes : goal.returns-then-is_empty-clause-goes
+returns-then-is_empty-clause-goes g c =
     let width = c.line_words-width.result in
     let long = length-take-le width c.args.memory.now.arrivals (omega (arith, c.line_words-width.ensures.within)) in
     let came = c.read-reader.auto.words ∙ long ∙ c.line_words-width.ensures.value in
@@ -26,7 +27,7 @@ returns-clause-goes g c =
     let came = c.read-reader.auto.words ∙ long ∙ c.line_words-width.ensures.value in
     let took = rw c.line_words-width.ensures.value at c.read-reader.ensures.taken in
     let same = c.read-reader.ensures.same_bytes in
-    let more : q.next < length q.bytes.now = omega (arith, c.if-piece.false, q.inside) in
+    let more : q.next < length q.bytes.now = omega (arith, eqb-false _ _ (sym c.is_empty.ensures ∙ c.if-is_empty.false), q.inside) in
     let here = eqb-true _ newline (took.place.here (rw same at more)) in
     let ends : get_or q.bytes.now q.next 0 ≡ newline = rw same here in
     goes_then {n = end_room} (goes_line 0 a.self a.memory.now.table a.memory.now.arrivals a.reader _ _ _ a.memory.now.out.items a.piece.now q came took same)
