@@ -61,7 +61,10 @@ fn behind_place(c: Cell) -> u32
 fn is_same_entry(a: Cell, b: Cell) -> bool
     ensures { result ≡ same_entry a b }
 {
-    a.entered == b.entered && !a.is_free() && !b.is_free() && a.input == b.input
+    if a.entered != b.entered {
+        return false;
+    }
+    !a.is_free() && !b.is_free() && a.input == b.input
 }
 
 // Record k has the same slot and input as no record below it, each looked at.

@@ -141,30 +141,30 @@ impl Match {
     }
 }
 
-// A table lent for the phases of a slot, with its queues.
+// A table lent for the phases of a slot, with its queues. They are lent too: put in here they would be copied.
 #[derive(Debug, Drop)]
 struct Phases<'a> {
     table: &'a mut [u32],
-    queues: PairQueues,
+    queues: &'a mut PairQueues,
 }
 
 impl Phases<'_> {
     // Lent on for a look at the heads.
     fn lined_table(&self) -> LinedTable<'_>
-        requires { LinedUp (cells_of self.now.table.now) self.now.queues }
+        requires { LinedUp (cells_of self.now.table.now) self.now.queues.now }
         ensures { result.table.now ≡ self.now.table.now }
     {
         LinedTable {
             table: self.table,
-            queues: &self.queues,
+            queues: self.queues,
         }
     }
 
     // The cell of record k becomes ready and takes its ports, and its input is kept at its output; the head of its pair is found anew.
     fn take(&mut self, picked: &mut Match, k: usize)
-        requires { Takeable self.old.table.now self.old.queues k }
+        requires { Takeable self.old.table.now self.old.queues.now k }
         ensures same_table { self.new.table.ghost_name ≡ self.old.table.ghost_name }
-        ensures takes { Takes self.old.table.now picked.old.taken picked.old.served k self.new.table.now self.new.queues picked.new.taken picked.new.served }
+        ensures takes { Takes self.old.table.now picked.old.taken picked.old.served k self.new.table.now self.new.queues.now picked.new.taken picked.new.served }
     {
         let table = &mut *self.table;
         let Cell { input, output, .. } = table::cell_at(table, k);
@@ -177,9 +177,9 @@ impl Phases<'_> {
 
     // Rounds of picking: the first candidate is taken, again and again, until there is none.
     fn pick(&mut self, r: Reading, ports: u32) -> Match
-        requires { Ready ports self.old.table.now self.old.queues }
+        requires { Ready ports self.old.table.now self.old.queues.now }
         ensures same_table { self.new.table.ghost_name ≡ self.old.table.ghost_name }
-        ensures picked { Picked ports r.counts self.old.table.now self.new.table.now self.new.queues result.taken result.served }
+        ensures picked { Picked ports r.counts self.old.table.now self.new.table.now self.new.queues.now result.taken result.served }
     {
         let mut picked = Match {
             taken: Taken::default(),
@@ -198,10 +198,10 @@ impl Phases<'_> {
 
     // One transfer phase, with its match words; answers how many cells moved.
     fn transfer(&mut self, words: &mut [u32], r: Reading, ports: u32) -> u32
-        requires ready { Ready ports self.old.table.now self.old.queues }
+        requires ready { Ready ports self.old.table.now self.old.queues.now }
         requires words_len { length words.old ≡ ports }
         ensures same_table { self.new.table.ghost_name ≡ self.old.table.ghost_name }
-        ensures transferred { Transferred ports r.counts self.old.table.now self.new.table.now self.new.queues words.new result }
+        ensures transferred { Transferred ports r.counts self.old.table.now self.new.table.now self.new.queues.now words.new result }
     {
         let picked = self.pick(r, ports);
         picked.write_words(words);
@@ -217,8 +217,12 @@ pub fn transfers(table: &mut [u32], matches: &mut [u32], r: Reading, ports: u32,
     ensures table_after { table.new ≡ with_records table.old (phases ports r.counts (cells_of table.old) speedup) }
     ensures matches_after { matches.new ≡ matches_of ports r.counts (cells_of table.old) speedup }
 {
-    let queues = PairQueues::line_up(table);
-    let mut phases = Phases { table, queues };
+    let mut queues = PairQueues::empty();
+    queues.line_up(table);
+    let mut phases = Phases {
+        table,
+        queues: &mut queues,
+    };
     let mut at = 0;
     for _ in 0..speedup {
         let end = at + ports as usize;

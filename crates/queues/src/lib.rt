@@ -66,7 +66,7 @@ fn named(word: u16) -> Option<usize>
 
 impl PairQueues {
     // No record has joined yet.
-    fn empty() -> PairQueues
+    pub fn empty() -> PairQueues
         ensures { result ≡ no_queues }
     {
         PairQueues {
@@ -78,17 +78,16 @@ impl PairQueues {
         }
     }
 
-    // The queues of a table.
+    // Empty queues become those of a table, where they stand: handed back they would be copied.
     #[tactic(auto, using(crate::specs::Lining::lining))]
-    pub fn line_up(table: &[u32]) -> PairQueues
-        requires { Lineable table.now }
-        ensures { result ≡ lined_up (cells_of table.now) }
+    pub fn line_up(&mut self, table: &[u32])
+        requires lineable { Lineable table.now }
+        requires empty { self.old ≡ no_queues }
+        ensures { self.new ≡ lined_up (cells_of table.now) }
     {
-        let mut queues = PairQueues::empty();
         for k in sift::records_with(table, sift::WAITING) {
-            queues.join(table, k);
+            self.join(table, k);
         }
-        queues
     }
 
     // The head of a pair.

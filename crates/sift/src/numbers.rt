@@ -12,11 +12,12 @@ pub struct Numbers<const N: usize> {
 }
 
 impl<const N: usize> Numbers<N> {
+    // No number of the list is read yet, so any will do. Zeros would be filled together with the count, and for a stretch that is long enough for a call.
     pub fn none() -> Numbers<N>
         ensures { result.count ≡ 0 }
     {
         Numbers {
-            list: [0; N],
+            list: [u8::MAX; N],
             count: 0,
         }
     }

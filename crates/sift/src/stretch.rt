@@ -52,11 +52,13 @@ impl<'a> Stretch<'a> {
         blocks
     }
 
-    // Lists the blocks in which some place has one of `bits`.
-    fn blocks_with(self, bits: u32) -> Numbers<BLOCKS>
-        ensures { BlocksListed self.entry bits result.list result.count }
+    // Lists the blocks in which some place has one of `bits`, in the list that is lent: one that is handed back is copied, and the copy waits for the
+    // bytes that were written last.
+    fn list_blocks(self, bits: u32, blocks: &mut Numbers<BLOCKS>)
+        requires { blocks.old.count ≡ 0 }
+        ensures { BlocksListed self.entry bits blocks.new.list blocks.new.count }
     {
-        self.blocks_where(|b| self.any_of_block(b, bits) != 0)
+        blocks.list_from(0, self.size() / BLOCK, |b| self.any_of_block(b, bits) != 0);
     }
 
     // Lists the records with one of `bits` from number `from` to number `to`, behind those below.
@@ -93,7 +95,8 @@ impl<'a> Stretch<'a> {
     pub fn list_with(self, bits: u32, numbers: &mut Numbers<STRETCH>)
         ensures { ListedTo self.entry (size_of self.entry) bits numbers.new.list numbers.new.count }
     {
-        let blocks = self.blocks_with(bits);
+        let mut blocks = Numbers::none();
+        self.list_blocks(bits, &mut blocks);
         self.list_within(bits, &blocks, numbers);
     }
 }

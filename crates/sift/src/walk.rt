@@ -38,13 +38,17 @@ impl<'a> Records<'a> {
         }
     }
 
-    // Whether a record is left, of the stretch at hand or of one behind it, which is the one at hand then.
+    // Whether a record is left, of the stretch at hand or of one behind it, which is the one at hand then. A table of one stretch is looked at once.
     #[inline(always)]
+    #[tactic(auto, unfolding(rules::specs::Cells::records))]
     fn is_any_left(&mut self) -> bool
         ensures { Sought self.old result self.new }
     {
         if self.turn < self.listed.count {
             return true;
+        }
+        if self.end == self.table.len() / rules::RECORD_WORDS {
+            return false;
         }
         let next = list_next(self.table, self.end, self.bits, &mut self.listed);
         self.from = next.start;

@@ -11,7 +11,7 @@ pub loop-init : goal.loop-init
 loop-init c =
     record {
       table = refl;
-      after = phases-none _ _ _ _ _ _ (rw c.line_up-queues.ensures (lined_up_lem (orderly_lineable c.requires.orderly))) c.requires.matches_len;
+      after = phases-none _ _ _ _ _ _ (rw c.line_up.ensures (lined_up_lem (orderly_lineable c.requires.orderly))) c.requires.matches_len;
     }
 
 pub transfer-moved-requires-clause-ready : goal.transfer-moved-requires-clause-ready

@@ -6,5 +6,5 @@ use Rattle.matching.proofs.transfers.Given as goal
 abbrev pub invariant-loop : goal.invariant-loop
 invariant-loop l = record {
   table : l.phases.table.ghost_name ≡ l.initial.phases.table.ghost_name;
-  after : AfterPhases l.ports l.speedup l.fn.r.counts l.fn.table l.phases.table.now l.phases.queues l.matches l.counter l.at;
+  after : AfterPhases l.ports l.speedup l.fn.r.counts l.fn.table l.phases.table.now l.phases.queues.now l.matches l.counter l.at;
 }

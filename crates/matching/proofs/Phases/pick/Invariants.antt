@@ -7,5 +7,5 @@ use Rattle.matching.proofs.Phases.pick.Given as goal
 abbrev pub invariant-rounds : goal.invariant-rounds
 invariant-rounds l = record {
   table : l.self.table.ghost_name ≡ l.fn.self.table.ghost_name;
-  rounds : AfterRounds l.ports l.r.counts l.fn.self.table.now l.self.table.now l.self.queues l.picked.taken l.picked.served l.lows.mask l.counter;
+  rounds : AfterRounds l.ports l.r.counts l.fn.self.table.now l.self.table.now l.self.queues.now l.picked.taken l.picked.served l.lows.mask l.counter;
 }

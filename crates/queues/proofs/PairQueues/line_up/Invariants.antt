@@ -10,5 +10,5 @@ abbrev pub invariant-loop-k : goal.invariant-loop-k
 invariant-loop-k l = record {
   words : l.k-iterator.table.now ≡ l.table;
   bits_are : l.k-iterator.bits ≡ waiting_bit;
-  lined : l.queues ≡ lined_to (cells_of l.table) (reached l.k-iterator);
+  lined : l.self ≡ lined_to (cells_of l.table) (reached l.k-iterator);
 }
