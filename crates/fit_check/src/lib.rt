@@ -166,7 +166,7 @@ fn list_live(stretch: Stretch<'_>, live: &mut Numbers<STRETCH>) -> u32
     ensures { Surveyed stretch.entry.table.now stretch.entry.start stretch.entry.end live.new.list live.new.count result }
 {
     let blocks = touched_blocks(stretch);
-    stretch.list_within(sift::LIVE, &blocks, live);
+    stretch.list_within(sift::LIVE, blocks.as_slice(), live);
     strays_within(stretch, &blocks)
 }
 

@@ -68,6 +68,10 @@ module _ {out : ℕ → Type 0} {ws : List ℕ} {m n : ℕ} (d : Sifted out ws m
       same-past zero i = refl
       same-past (suc j) i = ap suc (same j i)
 
+  -- the first m numbers by themselves
+  pub sifted_front : {xs : List ℕ} → (xs ≡ take m ws) × (length xs ≡ m) → Sifted out xs (length xs) n
+  sifted_front {xs} e = rw e.1 (sifted_like xs (λ j i. ap (λ (l : List ℕ). get_or l j 0) e.0 ∙ get_or-take m ws j 0 i))
+
   -- the next number stays
   sifted_next : get_or ws m 0 ≡ n → Sifted out ws (suc m) (suc n)
   sifted_next e = record {

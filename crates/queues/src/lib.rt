@@ -35,14 +35,15 @@ impl Pair {
 }
 
 // For each pair its head, and the top of its chain, its highest record; for each record the next lower one of its chain; for each output the inputs
-// that have a cell for it; and the outputs with such an input, and maybe others. A record is named by its number + 1, and 0 names none.
+// that have a cell for it; and the outputs with such an input, and maybe others. A record is named by its number + 1, and 0 names none. The methods
+// say what they do with any words, so these are open.
 #[derive(Debug, Drop)]
 pub struct PairQueues {
-    heads: [u16; PAIRS],
-    tops: [u16; PAIRS],
-    links: [u16; MOST_RECORDS],
-    senders: [PortSet; PORT_COUNT],
-    wanted: PortSet,
+    pub heads: [u16; PAIRS],
+    pub tops: [u16; PAIRS],
+    pub links: [u16; MOST_RECORDS],
+    pub senders: [PortSet; PORT_COUNT],
+    pub wanted: PortSet,
 }
 
 // The word that names what was found.

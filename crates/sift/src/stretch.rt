@@ -1,6 +1,6 @@
 // The stretches of a table, so many records at a time that a number of one fits a byte, and which records of a stretch have some bits in their places.
 
-ghost use Rattle.std.specs.Prelude.{◌≡◌, ℕ, ◌-◌, ◌<◌, ◌≤◌, []};
+ghost use Rattle.std.specs.Prelude.{◌≡◌, ℕ, ◌-◌, ◌<◌, ◌≤◌, [], length};
 ghost use Rattle.rules.specs.Cells.{records};
 ghost use Rattle.sift.specs.Lists.{Lists};
 ghost use Rattle.sift.specs.Stretch.{BlockLacks, IsStretch, Words};
@@ -78,12 +78,12 @@ impl<'a> Stretch<'a> {
     // Lists the records with one of `bits` in some blocks, and in what is left behind the last block. It is no call, so that the stretch stays in
     // registers.
     #[inline(always)]
-    pub fn list_within(self, bits: u32, blocks: &Numbers<BLOCKS>, numbers: &mut Numbers<STRETCH>)
-        requires { BlocksListed self bits blocks.now.list blocks.now.count }
+    pub fn list_within(self, bits: u32, blocks: &[u8], numbers: &mut Numbers<STRETCH>)
+        requires { BlocksListed self bits blocks.now (length blocks.now) }
         ensures { ListedTo self.entry (size_of self.entry) bits numbers.new.list numbers.new.count }
     {
         numbers.clear();
-        for b in blocks.as_slice() {
+        for b in blocks {
             let from = usize::from(*b) * BLOCK;
             self.list_between(from, from + BLOCK, bits, numbers);
         }
@@ -97,7 +97,7 @@ impl<'a> Stretch<'a> {
     {
         let mut blocks = Numbers::none();
         self.list_blocks(bits, &mut blocks);
-        self.list_within(bits, &blocks, numbers);
+        self.list_within(bits, blocks.as_slice(), numbers);
     }
 }
 

@@ -5,4 +5,4 @@ use Rattle.sift.specs.Stretch.{block, Listed}
 use Rattle.sift.proofs.stretch.Stretch.list_within.Given as goal
 
 abbrev pub invariant-loop-b : goal.invariant-loop-b
-invariant-loop-b l = Listed l.self.table.now l.self.start (past l.blocks.list l.b-index * block) l.bits l.numbers.list l.numbers.count
+invariant-loop-b l = Listed l.self.table.now l.self.start (past l.blocks l.b-index * block) l.bits l.numbers.list l.numbers.count
