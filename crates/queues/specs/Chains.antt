@@ -106,11 +106,16 @@ module _ (qs : PairQueues) (long : Long qs) (p : ℕ) (small : p < pairs) (k : �
       there q l n = subst (Link cl q (k + 1)) (sym (top_other q n)) (link_on (h.tops q l) (λ y. n (sym y ∙ e)))
 
 -- the heads, the sets of senders and the wanted outputs do not matter
-pub chains_kept : {cl : ℕ → ℕ} {n : ℕ} {qs ns : PairQueues} → ns.tops ≡ qs.tops → ns.links ≡ qs.links → Chains cl n qs → Chains cl n ns
-chains_kept {cl} {n} {qs} {ns} top next h = record {
-  tops = λ p l. subst (Link cl p n) (sym (ap (λ (ws : List ℕ). get_or ws p 0) top)) (h.tops p l);
-  nexts = λ k l m. subst (Link cl (cl k) k) (sym (ap (λ (ws : List ℕ). get_or ws k 0) next)) (h.nexts k l m);
+pub chains_kept : {cl : ℕ → ℕ} {n : ℕ} {qs ns : PairQueues} → ((p : ℕ) → p < pairs → top_word ns p ≡ top_word qs p)
+    → ((k : ℕ) → k < n → next_word ns k ≡ next_word qs k) → Chains cl n qs → Chains cl n ns
+chains_kept {cl} {n} top next h = record {
+  tops = λ p l. subst (Link cl p n) (sym (top p l)) (h.tops p l);
+  nexts = λ k l m. subst (Link cl (cl k) k) (sym (next k l)) (h.nexts k l m);
 }
+
+pub chains_same : {cl : ℕ → ℕ} {n : ℕ} {qs ns : PairQueues} → ns.tops ≡ qs.tops → ns.links ≡ qs.links → Chains cl n qs → Chains cl n ns
+chains_same top next =
+    chains_kept (λ p l. ap (λ (ws : List ℕ). get_or ws p 0) top) (λ k l. ap (λ (ws : List ℕ). get_or ws k 0) next)
 
 -- Classes ----------------------------------------------------------------------------------------
 

@@ -28,7 +28,7 @@ use Rattle.queues.specs.declared.PairQueues.{PairQueues}
 use Rattle.queues.specs.Layout.{Long, pair, same-pair}
 use Rattle.queues.specs.Layout.{head_word, senders, wanted, name_of, is_found}
 use Rattle.queues.specs.Queues.{waits_for, waits→, head_below, head_of, All, But, Queues, head_set, Stale}
-use Rattle.queues.specs.Chains.{chains_kept}
+use Rattle.queues.specs.Chains.{chains_same}
 
 -- the head of a pair is one of the records that it was looked for among
 pub head_below_lem : (cs : List Cell) (k i o : ℕ) → Below k (head_below cs k i o)
@@ -128,7 +128,7 @@ module _ {table : List ℕ} {qs : PairQueues} {i : Input} {o : Output} (s : Stal
         cl = q.cl;
         long = h.long;
         ports = q.ports;
-        chains = chains_kept h.top h.next q.chains;
+        chains = chains_same h.top h.next q.chains;
         covers = q.covers;
         heads = record {
           head = λ x y l m z.

@@ -33,7 +33,7 @@ use Rattle.queues.specs.Layout.{pairs, Long, pair, pair_of, same-pair}
 use Rattle.queues.specs.Layout.{head_word, senders, wanted, no_queues, name_of, named, named_name, is_found}
 use Rattle.queues.specs.Queues.{Ports, waits_for, waits→, →waits, head_below, Heads, All, But, Queues, waiting_at, class_of}
 use Rattle.queues.specs.Queues.{linked, head_set, chained, old_head, new_head, compared, joined, lined_to, lined_up, Lineable, LinedTo, Joinable}
-use Rattle.queues.specs.Chains.{no_chains, chains_skip, chains_kept, chains_link, class_waiting, class_other, linked_long}
+use Rattle.queues.specs.Chains.{no_chains, chains_skip, chains_same, chains_link, class_waiting, class_other, linked_long}
 use Rattle.queues.specs.Heads.{head_below_lem, HeadSet, head_set_lem}
 
 -- A record read ----------------------------------------------------------------------------------
@@ -182,7 +182,7 @@ module _ {table : List ℕ} {k : ℕ} {qs : PairQueues} (j : Joinable table k qs
   lined_join = record {
     long = set_new.long;
     chains =
-        chains_kept set_new.top set_new.next
+        chains_same set_new.top set_new.next
         (chains_link qs j.below.long _ joins_pair k names j.below.chains (class_waiting cs k w));
     heads = heads_new;
   }
