@@ -105,10 +105,13 @@ impl Cell {
     pub fn is_older_than(self, other: Cell) -> bool
         ensures { result ≡ older self other }
     {
-        if self.entered == other.entered {
-            return self.input < other.input;
+        if self.entered < other.entered {
+            return true;
         }
-        self.entered < other.entered
+        if other.entered < self.entered {
+            return false;
+        }
+        self.input < other.input
     }
 }
 

@@ -91,7 +91,8 @@ impl<'a> Stretch<'a> {
         self.list_between(size / BLOCK * BLOCK, size, bits, numbers);
     }
 
-    // Lists the records with one of `bits`.
+    // Lists the records with one of `bits`. It is no call, so that the bits are constants in it where its caller has them as such.
+    #[inline(always)]
     pub fn list_with(self, bits: u32, numbers: &mut Numbers<STRETCH>)
         ensures { ListedTo self.entry (size_of self.entry) bits numbers.new.list numbers.new.count }
     {

@@ -11,9 +11,10 @@ ghost use Rattle.rules.specs.Cells.{most_ports, most_records, free, placed, nth,
 ghost use Rattle.rules.specs.Answers.{live};
 ghost use Rattle.rules.specs.Phases.{lowest_free, readings, oldest_ready};
 ghost use Rattle.table.specs.Table.{stored, NoneBelow, older_at};
-ghost use Rattle.table.specs.Reading.{bumped, is_counted, older_ready};
+ghost use Rattle.table.specs.Reading.{bumped, is_counted, older_ready, OldestFound};
 
 use rules::{Cell, Input, Output, Slot};
+use sift::{Numbers, STRETCH, Stretch};
 
 // How many whole records the words are.
 #[tactic(auto, unfolding(rules::specs::Cells::records))]
@@ -135,13 +136,34 @@ fn older_of(table: &[u32], o: Output, found: Option<usize>, k: usize) -> Option<
     }
 }
 
-// Of the ready cells of an output, the first by slot and then input.
+// What was found below a stretch, or one of its ready cells.
+#[inline(always)]
+fn oldest_within(
+    stretch: Stretch<'_>,
+    listed: &mut Numbers<STRETCH>,
+    o: Output,
+    below: Option<usize>,
+) -> Option<usize>
+    requires { OldestFound stretch.table.now o below stretch.start }
+    ensures { OldestFound stretch.entry.table.now o result stretch.entry.end }
+{
+    stretch.list_with(sift::READY, listed);
+    let mut found = below;
+    for x in listed.as_slice() {
+        found = older_of(stretch.table, o, found, stretch.start + usize::from(*x));
+    }
+    found
+}
+
+// Of the ready cells of an output, the first by slot and then input. A slot asks that of each output, so the stretches are passed here and not by
+// `records_with`: its walk is made anew for each.
 pub fn oldest_ready(table: &[u32], o: Output) -> Option<usize>
     ensures { result ≡ oldest_ready (cells_of table.now) o }
 {
+    let mut listed = Numbers::none();
     let mut found = None;
-    for k in sift::records_with(table, sift::READY) {
-        found = older_of(table, o, found, k);
+    for stretch in sift::stretches(table) {
+        found = oldest_within(stretch, &mut listed, o, found);
     }
     found
 }
