@@ -1,42 +1,85 @@
--- Texts put one behind the other, and the laws of decimal numbers that printing needs: the last digit apart, and how many there are.
+-- Texts put on a page one behind the other, and the laws of decimal numbers that printing needs: the last digit apart, and how many there are.
 -- Assumes nothing.
-use Rattle.std.specs.Prelude.{ℕ, zero, suc, ◌+◌, ◌*◌, ◌/◌, ◌%◌, ◌^◌, ◌≤◌, ◌<◌, ◌≡◌, refl, Bool, true, false, cond, List, [], ◌∷◌, ◌++◌, leb, ltb, length}
-use Rattle.std.proofs.Common.{sym, ap, ◌∙◌, append_assoc, append-nil, arith, pow-suc, length-append, ltb-true, ltb-false, lt-ltb, le-ltb, le-leb}
+use Rattle.std.specs.Prelude.{ℕ, zero, suc, ◌+◌, ◌*◌, ◌/◌, ◌%◌, ◌^◌, ◌≤◌, ◌<◌, ◌≡◌, refl, Bool, true, false, cond, List, [], ◌∷◌, ◌++◌, leb, ltb, length, take, drop, set}
+use Rattle.std.proofs.Common.{sym, ap, ◌∙◌, arith, pow-suc, length-append, length-take-le, take_at, ltb-true, ltb-false, lt-ltb, le-ltb, le-leb}
 use Rattle.std.proofs.Math.Bool.{So}
 use Rattle.std.proofs.Math.Nat.{one-le-pow}
+use Rattle.std.proofs.lemmas.List.Edits.{sets, sets-eq}
+use Rattle.std.proofs.Math.Seq.{length-sets}
 use Rattle.std.specs.Fmt.{decimal as std_decimal}
 use Rattle.std.proofs.lemmas.Fmt.{decimal_by_steps}
 use Rattle.laws.specs.Tests.{join}
 use Rattle.laws.specs.Folds.{fold, fold_more, each, each_more}
 use Rattle.characters.specs.Characters.{first_digit, last_digit, is_digit, digit_byte, push, value}
+use Rattle.printing.specs.declared.page.Page.{Page}
 use Rattle.printing.specs.Printed.{digits, decimal, number_bytes}
 
--- `text` was put behind what was `old`, and `new` is all of it. It takes no more than `most` bytes.
-pub record Put (most : ℕ) (old text new : List ℕ) : Type 0 where
-  pub bytes : new ≡ old ++ text
+-- the bytes of a page that are text
+abbrev pub text_of : Page → List ℕ
+text_of p = take p.count p.bytes.now
+
+-- `text` was put on a page behind what stood there, and no byte but its own was written. It takes no more than `most` bytes. The bytes are still
+-- those that the caller lent.
+pub record Put (most : ℕ) (old : Page) (text : List ℕ) (new : Page) : Type 0 where
+  pub count : new.count ≡ old.count + length text
+  pub bytes : new.bytes.now ≡ sets old.bytes.now old.count text
   pub within : length text ≤ most
+  pub same_bytes : new.bytes.ghost_name ≡ old.bytes.ghost_name
 
--- so what is put settles the whole
-pub put_settled : {most : ℕ} {old text new other : List ℕ} → Put most old text new → Put most old text other → new ≡ other
-put_settled x y = x.bytes ∙ sym y.bytes
+-- so what is put settles the bytes and how many are text
+pub put_settled : {most : ℕ} {old : Page} {text : List ℕ} {new other : Page} → Put most old text new → Put most old text other
+    → (new.bytes.now ≡ other.bytes.now) × (new.count ≡ other.count)
+put_settled x y = (x.bytes ∙ sym y.bytes, x.count ∙ sym y.count)
 
-pub put_none : (most : ℕ) (old : List ℕ) → Put most old [] old
-put_none most old = record { bytes = sym (append-nil old); within = omega arith }
+pub put_none : (most : ℕ) (old : Page) → Put most old [] old
+put_none most old = record { count = omega arith; bytes = refl; within = omega arith; same_bytes = refl }
 
-pub put_then : {m n most : ℕ} {old mid new s t : List ℕ} → Put m old s mid → Put n mid t new → m + n ≤ most → Put most old (s ++ t) new
+-- a text behind another
+sets_join : (l : List ℕ) (i : ℕ) (s t : List ℕ) → sets (sets l i s) (i + length s) t ≡ sets l i (s ++ t)
+sets_join l i [] t = ap (λ (k : ℕ). sets l k t) {x = i + 0} {y = i} (omega arith)
+sets_join l i (b ∷ s) t =
+    ap (λ (k : ℕ). sets (sets l i (b ∷ s)) k t) {x = i + suc (length s)} {y = suc i + length s} (omega arith) ∙ sets_join (set l i b) (suc i) s t
+
+pub put_then : {m n most : ℕ} {old mid new : Page} {s t : List ℕ} → Put m old s mid → Put n mid t new → m + n ≤ most → Put most old (s ++ t) new
 put_then {old = old} {s = s} {t = t} x y h = record {
-  bytes = y.bytes ∙ ap (λ (l : List ℕ). l ++ t) x.bytes ∙ append_assoc old s t;
+  count = omega (arith, x.count, y.count, length-append s t);
+  bytes = y.bytes ∙ rw (x.bytes, x.count) (sets_join old.bytes.now old.count s t);
   within = omega (arith, x.within, y.within, length-append s t);
+  same_bytes = y.same_bytes ∙ x.same_bytes;
 }
 
-pub put_within : {m most : ℕ} {old text new : List ℕ} → Put m old text new → m ≤ most → Put most old text new
-put_within x h = record { bytes = x.bytes; within = omega (arith, x.within) }
+pub put_within : {m most : ℕ} {old : Page} {text : List ℕ} {new : Page} → Put m old text new → m ≤ most → Put most old text new
+put_within x h = record { count = x.count; bytes = x.bytes; within = omega (arith, x.within); same_bytes = x.same_bytes }
 
-pub put_size : {most : ℕ} {old text new : List ℕ} → Put most old text new → length new ≤ length old + most
-put_size {old = old} {text = text} x = omega (arith, x.within, ap length x.bytes, length-append old text)
+-- the page stays as long as it was, and its text grows by no more than `most`
+pub put_size : {most : ℕ} {old : Page} {text : List ℕ} {new : Page} → Put most old text new
+    → (length new.bytes.now ≡ length old.bytes.now) × (new.count ≤ old.count + most)
+put_size {old = old} {text = text} x = (ap length x.bytes ∙ length-sets old.bytes.now old.count text, omega (arith, x.within, x.count))
 
-pub put_fits : {m most : ℕ} {old text new : List ℕ} → Put m old text new → length new ≤ length old + most → Put most old text new
-put_fits {old = old} {text = text} x h = record { bytes = x.bytes; within = omega (arith, h, ap length x.bytes, length-append old text) }
+-- so there is room for what comes behind
+pub put_room : {most : ℕ} {old : Page} {text : List ℕ} {new : Page} → Put most old text new → (k : ℕ) → old.count + most + k ≤ length old.bytes.now
+    → new.count + k ≤ length new.bytes.now
+put_room x k h = omega (arith, h, put_size x)
+
+pub put_fits : {m most : ℕ} {old : Page} {text : List ℕ} {new : Page} → Put m old text new → new.count ≤ old.count + most → Put most old text new
+put_fits x h = record { count = x.count; bytes = x.bytes; within = omega (arith, h, x.count); same_bytes = x.same_bytes }
+
+-- the text stands behind what stood before it
+pub put_text_of : {most : ℕ} {old : Page} {text : List ℕ} {new : Page} → Put most old text new → text_of new ≡ text_of old ++ text
+put_text_of {old = old} {text = text} {new = new} x =
+    rw (x.bytes, x.count) (ap (take end) (sets-eq text bytes old.count fits) ∙ take_at (take old.count bytes ++ text) (drop end bytes) end front)
+  where
+    bytes : List ℕ
+    bytes = old.bytes.now
+
+    end : ℕ
+    end = old.count + length text
+
+    fits : old.count + length text ≤ length bytes
+    fits = omega (arith, x.count, new.inside, put_size x)
+
+    front : length (take old.count bytes ++ text) ≡ end
+    front = length-append (take old.count bytes) text ∙ ap (λ (n : ℕ). n + length text) (length-take-le old.count bytes (omega (arith, fits)))
 
 -- a decimal number ----------------------------------------------------------------------------
 

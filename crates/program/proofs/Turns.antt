@@ -3,6 +3,7 @@ use Rattle.std.proofs.Common.{◌∙◌, ◌≡◌, ◌<◌, ◌+◌, ◌++◌, 
 use Rattle.laws.specs.Pieces.{drop_next}
 use Rattle.text.specs.declared.piece.Piece.{Piece}
 use Rattle.text.specs.Steps.{line_state_of, reader_start}
+use Rattle.printing.specs.declared.page.Page.{Page}
 use Rattle.program.specs.declared.running.Running.{Running}
 use Rattle.program.specs.declared.Program.TheVariants.{Between, Within}
 use Rattle.program.specs.Program.{lines_of, slots_text}
@@ -11,7 +12,7 @@ use Rattle.program.specs.Coming.{state_of, line_words, line_from, Stand, stand, 
 use Rattle.program.specs.Bytes.{between}
 
 -- a line begins with its first byte
-pub goes_begins : {most : ℕ} {p p' : Piece} {table arrivals out out' : List ℕ} {s : Stand} (x : Running) → length arrivals ≡ arrival_words
+pub goes_begins : {most : ℕ} {p p' : Piece} {table arrivals : List ℕ} {out out' : Page} {s : Stand} (x : Running) → length arrivals ≡ arrival_words
     → p.next < length p.bytes.now → Goes most p (stand (Within x reader_start) table arrivals) out p' s out'
     → Goes most p (stand (Between x) table arrivals) out p' s out'
 unfolding coming_by

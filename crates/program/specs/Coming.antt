@@ -8,11 +8,13 @@ use Rattle.text.specs.declared.FirstLine.{FirstLine}
 use Rattle.text.specs.declared.FirstReader.{FirstReader}
 use Rattle.text.specs.declared.piece.Piece.{Piece}
 use Rattle.text.specs.declared.SlotReader.{SlotReader}
+use Rattle.printing.specs.declared.page.Page.{Page}
 use Rattle.printing.specs.Printed.{unreadable_line}
 use Rattle.printing.specs.Prints.{Put}
 use Rattle.characters.specs.Characters.{newline}
 use Rattle.text.specs.Steps.{LineState, line_state_of, end_field, slot_step, is_complete, first_step, first_answer}
 use Rattle.program.specs.Lent.{end_room}
+use Rattle.program.specs.declared.memory.Memory.{Memory}
 use Rattle.program.specs.declared.running.Running.{Running}
 use Rattle.program.specs.declared.Program.{Program}
 use Rattle.program.specs.declared.Program.TheVariants.{First, Between, Within, Over}
@@ -91,9 +93,9 @@ on_newline x s rest = line_from x s (lines_of (newline ∷ rest))
 abbrev pub on_words : State → List ℕ → List ℕ → List ℕ
 on_words x words rest = line_text x words ++ slots_text (line_after x words) (lines_of rest)
 
--- what each of these does: of the `whole` that is to be printed, for each further input, a text is put behind `out`, and the rest is to come from
+-- what each of these does: of the `whole` that is to be printed, for each further input, a text is put on the page, and the rest is to come from
 -- the next state, whatever the words of a line are then
-pub record Turns (whole : List ℕ → List ℕ) (out : List ℕ) (d : Program) (table out' : List ℕ) : Type 0 where
+pub record Turns (whole : List ℕ → List ℕ) (out : Page) (d : Program) (table : List ℕ) (out' : Page) : Type 0 where
   pub text : List ℕ
   pub put : Put end_room out text out'
   pub comes : (arrivals rest : List ℕ) → whole rest ≡ text ++ coming_by d table arrivals rest
@@ -103,7 +105,7 @@ abbrev pub unread : Piece → List ℕ
 unread p = drop p.next p.bytes.now
 
 -- the same over bytes of a piece: from a stand and what is unread there to another stand and what is unread then
-pub record Goes (most : ℕ) (p : Piece) (s : Stand) (out : List ℕ) (p' : Piece) (s' : Stand) (out' : List ℕ) : Type 0 where
+pub record Goes (most : ℕ) (p : Piece) (s : Stand) (out : Page) (p' : Piece) (s' : Stand) (out' : Page) : Type 0 where
   pub text : List ℕ
   pub put : Put most out text out'
   pub comes : (rest : List ℕ) → coming s (unread p ++ rest) ≡ text ++ coming s' (unread p' ++ rest)
@@ -111,5 +113,10 @@ pub record Goes (most : ℕ) (p : Piece) (s : Stand) (out : List ℕ) (p' : Piec
   pub order : p.next ≤ p'.next
 
 -- of what a pass takes
-abbrev pub PassGoes : ℕ → Piece → Program → List ℕ → List ℕ → List ℕ → Piece → Program → List ℕ → List ℕ → List ℕ → Type 0
-PassGoes most p d table arrivals out p' d' table' arrivals' out' = Goes most p (stand d table arrivals) out p' (stand d' table' arrivals') out'
+abbrev pub PassGoes : ℕ → Piece → Program → Memory → Page → Piece → Program → Memory → Page → Type 0
+PassGoes most p d m out p' d' m' out' = Goes most p (stand d m.table.now m.arrivals.now) out p' (stand d' m'.table.now m'.arrivals.now) out'
+
+-- the words that were lent are still the caller's. Of a page's bytes `Put` says it.
+pub record SameMemory (m m' : Memory) : Type 0 where
+  pub table : m'.table.ghost_name ≡ m.table.ghost_name
+  pub arrivals : m'.arrivals.ghost_name ≡ m.arrivals.ghost_name

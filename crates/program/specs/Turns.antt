@@ -1,4 +1,4 @@
--- Slot lines, and the turns that the program's functions take: a text put into the buffer, and the stand that prints the rest.
+-- Slot lines, and the turns that the program's functions take: a text put on the page, and the stand that prints the rest.
 -- Assumes nothing.
 use Rattle.std.specs.Prelude.{ℕ, ◌+◌, ◌*◌, ◌≤◌, ◌<◌, ◌≡◌, refl, Bool, true, false, cond, eqb, length, get_or, take, drop}
 use Rattle.std.proofs.Math.Path.{sym, ap}
@@ -20,6 +20,7 @@ use Rattle.text.specs.declared.SlotReader.{SlotReader}
 use Rattle.text.specs.declared.piece.Piece.{Piece}
 use Rattle.text.specs.Steps.{LineState, line_state_of, end_field, is_complete, first_step}
 use Rattle.text.specs.Parts.{LineTaken}
+use Rattle.printing.specs.declared.page.Page.{Page}
 use Rattle.printing.specs.Prints.{Put, put_none, put_then, put_within, put_fits}
 use Rattle.program.specs.declared.running.Running.{Running}
 use Rattle.program.specs.declared.Program.{Program}
@@ -82,7 +83,7 @@ slot_more t n e = blocks_more (cell_text t e) n
 
 -- turns --------------------------------------------------------------------------------------------
 
-module _ {whole : List ℕ → List ℕ} {out out' table : List ℕ} where
+module _ {whole : List ℕ → List ℕ} {out out' : Page} {table : List ℕ} where
   pub turns_as : {other : List ℕ → List ℕ} {d : Program} → Turns whole out d table out' → ((rest : List ℕ) → other rest ≡ whole rest)
       → Turns other out d table out'
   turns_as x h = record { text = x.text; put = x.put; comes = λ ws rest. h rest ∙ x.comes ws rest }
@@ -100,7 +101,7 @@ module _ {whole : List ℕ → List ℕ} {out out' table : List ℕ} where
   turns_between {text = text} p l h = record { text = text; put = put_within p l; comes = λ ws rest. h rest }
 
 -- nothing is put
-pub turns_first : (r : FirstReader) (b : ℕ) (out table : List ℕ) → No (eqb b newline) → Turns (on_byte r b) out (First (first_step r b)) table out
+pub turns_first : (r : FirstReader) (b : ℕ) (out : Page) (table : List ℕ) → No (eqb b newline) → Turns (on_byte r b) out (First (first_step r b)) table out
 unfolding coming_by
 turns_first r b out table h = record { text = []; put = put_none end_room out; comes = λ ws rest. opening_byte r b rest h }
 
@@ -110,7 +111,7 @@ pub state_front : (w : Switch) (words : ℕ) (front rest : List ℕ) → length 
 state_front w words front rest h = ap (λ (l : List ℕ). record { numbers = w; table = l }) (take_at front rest words h)
 
 -- a slot line's text, and the switch between two lines; the lent front of the table came back
-pub turns_line : (x y : Running) (table words rest : List ℕ) {out out' : List ℕ} (o : Outcome) → o ≡ slot_on (state_of x table) words
+pub turns_line : (x y : Running) (table words rest : List ℕ) {out out' : Page} (o : Outcome) → o ≡ slot_on (state_of x table) words
     → y.crossbar.numbers ≡ o.numbers → y.words ≡ x.words → length o.table ≡ x.words
     → Put end_room out (answer_text x.crossbar.numbers o.answer o.exhaled) out'
     → Turns (on_words (state_of x table) words) out (Between y) (o.table ++ rest) out'
@@ -120,7 +121,7 @@ turns_line x y table words rest o is n w l p =
     (λ more. rw (line_text_lem (state_of x table) words o is, line_after_lem (state_of x table) words o is, ← n, ← after))
 
 -- a slot line's end, where it was not read and where it was
-module _ (x : State) (s : LineState) {out out' table : List ℕ} where
+module _ (x : State) (s : LineState) {out out' : Page} {table : List ℕ} where
   pub turns_unread : No (is_complete (end_field s)) → Put end_room out (end_text x) out' → Turns (on_newline x s) out Over table out'
   unfolding line_end
   turns_unread h p = turns_over p (omega arith) (λ rest. line_end_lem x s rest ∙ cond_false (is_complete (end_field s)) _ _ h)
@@ -133,12 +134,12 @@ module _ (x : State) (s : LineState) {out out' table : List ℕ} where
 
 -- many bytes -----------------------------------------------------------------------------------
 
-pub goes_none : (most : ℕ) (p : Piece) (s : Stand) (out : List ℕ) → Goes most p s out p s out
+pub goes_none : (most : ℕ) (p : Piece) (s : Stand) (out : Page) → Goes most p s out p s out
 goes_none most p s out = record { text = []; put = put_none most out; comes = λ rest. refl; bytes = refl; order = omega arith }
 
 -- two ways, one behind the other
-pub goes_then : {m n most : ℕ} {p q r : Piece} {s a c : Stand} {out mid new : List ℕ} → Goes m p s out q a mid → Goes n q a mid r c new
-    → length new ≤ length out + most → Goes most p s out r c new
+pub goes_then : {m n most : ℕ} {p q r : Piece} {s a c : Stand} {out mid new : Page} → Goes m p s out q a mid → Goes n q a mid r c new
+    → new.count ≤ out.count + most → Goes most p s out r c new
 goes_then {m} {n} {r = r} {c = c} x y h = record {
   text = x.text ++ y.text;
   put = put_fits (put_then {most = m + n} x.put y.put (omega arith)) h;
@@ -152,7 +153,7 @@ pub record Steps (p p' : Piece) : Type 0 where
   pub bytes : p'.bytes.now ≡ p.bytes.now
   pub next : p'.next ≡ p.next + 1
 
-pub goes_byte : {most : ℕ} {p p' : Piece} {s : Stand} {d : Program} {out new table : List ℕ} (b : ℕ) (arrivals : List ℕ) → p.next < length p.bytes.now
+pub goes_byte : {most : ℕ} {p p' : Piece} {s : Stand} {d : Program} {out new : Page} {table : List ℕ} (b : ℕ) (arrivals : List ℕ) → p.next < length p.bytes.now
     → get_or p.bytes.now p.next 0 ≡ b → Steps p p' → Turns (λ rest. coming s (b ∷ rest)) out d table new → end_room ≤ most
     → Goes most p s out p' (stand d table arrivals) new
 goes_byte {p = p} {p' = p'} {s = s} {d = d} {table = table} b arrivals h e n y l = record {
@@ -170,13 +171,13 @@ goes_byte {p = p} {p' = p'} {s = s} {d = d} {table = table} b arrivals h e n y l
     rest = rw (n.bytes, n.next)
 
 -- the end of the reading takes any input
-pub goes_over : (most : ℕ) (p p' : Piece) (table arrivals out : List ℕ) → p'.bytes.now ≡ p.bytes.now → p.next ≤ p'.next
+pub goes_over : (most : ℕ) (p p' : Piece) (table arrivals : List ℕ) (out : Page) → p'.bytes.now ≡ p.bytes.now → p.next ≤ p'.next
     → Goes most p (stand Over table arrivals) out p' (stand Over table arrivals) out
 unfolding coming_by
 goes_over most p p' table arrivals out e h = record { text = []; put = put_none most out; comes = λ rest. refl; bytes = e; order = h }
 
 -- a slot line as far as a piece has it; the lent front of its words came back
-pub goes_line : (most : ℕ) (x : Running) (table arrivals : List ℕ) (r r' : SlotReader) (front back out : List ℕ) (p p' : Piece)
+pub goes_line : (most : ℕ) (x : Running) (table arrivals : List ℕ) (r r' : SlotReader) (front back : List ℕ) (out : Page) (p p' : Piece)
     → length front ≡ line_words x → LineTaken p.bytes.now (line_of x r arrivals) p.next (line_state_of r' front) p'.next → p'.bytes.now ≡ p.bytes.now
     → Goes most p (stand (Within x r) table arrivals) out p' (stand (Within x r') table (front ++ back)) out
 unfolding coming_by

@@ -5,8 +5,8 @@ ghost use Rattle.rules.specs.Cells.{most_ports, most_speedup};
 ghost use Rattle.program.specs.Lent.{lent_table_words, lent_words};
 
 use crate::outcome::put_outcome;
-use crate::{MOST_LENT, Memory, Program, TABLE_WORDS};
-use arrayvec::ArrayVec;
+use crate::{MOST_LENT, Memory, Program};
+use printing::Page;
 use rules::{ARRIVAL_WORDS, EXHALED_WORDS, MOST_SPEEDUP, PORT_COUNT, RECORD_WORDS, Slot, Switch};
 use switch::Crossbar;
 use text::{FirstLine, Piece, SlotReader};
@@ -28,19 +28,18 @@ pub struct Running {
 
 impl Running {
     ghost use Rattle.std.specs.Prelude.{◌+◌, ◌<◌, length};
-    ghost use Rattle.arrayvec.specs.ArrayVec.{array_vec_len};
     ghost use Rattle.printing.specs.Printed.{line_bytes};
     ghost use Rattle.printing.specs.Prints.{Put};
     ghost use Rattle.program.specs.declared.Program.TheVariants.{Within};
     ghost use Rattle.program.specs.Program.{held_text, end_text};
     ghost use Rattle.program.specs.Lent.{arrival_words, end_room};
-    ghost use Rattle.program.specs.Coming.{state_of, line_words, line_of, on_numbers, on_newline, on_words, Turns, PassGoes};
+    ghost use Rattle.program.specs.Coming.{state_of, line_words, line_of, on_numbers, on_newline, on_words, Turns, SameMemory, PassGoes};
 
     // The fresh start that a first line asks for.
-    #[tactic(auto, using(crate::specs::Start::lent_small))]
-    pub(crate) fn begin<const N: usize>(line: FirstLine, memory: &mut Memory<N>) -> Program
-        requires { array_vec_len memory.old.out + end_room ≤ N }
-        ensures { Turns (on_numbers line) memory.old.out.items result memory.new.table memory.new.out.items }
+    pub(crate) fn begin(line: FirstLine, memory: &mut Memory<'_>, out: &mut Page<'_>) -> Program
+        requires { out.old.count + end_room ≤ length out.old.bytes.now }
+        ensures turns { Turns (on_numbers line) out.old result memory.new.table.now out.new }
+        ensures same_memory { SameMemory memory.old memory.new }
     {
         let words = lent_words(line.records);
         let mut crossbar = Crossbar {
@@ -51,24 +50,25 @@ impl Running {
             },
         };
         if let Err(refusal) = crossbar.fresh_start(&mut memory.table[..words]) {
-            printing::put_refused(&mut memory.out, refusal.number());
+            printing::put_refused(out, refusal.number());
             return Program::Over;
         }
-        printing::put_header(&mut memory.out);
+        printing::put_header(out);
         Program::Between(Running { crossbar, words })
     }
 
     // What a piece has of a slot line, with the line's end if that is there.
-    pub(crate) fn advance<const N: usize>(
+    pub(crate) fn advance(
         self,
         reader: SlotReader,
         piece: &mut Piece<'_>,
-        memory: &mut Memory<N>,
+        memory: &mut Memory<'_>,
+        out: &mut Page<'_>,
     ) -> Program
         requires more { piece.old.next < length piece.old.bytes.now }
-        requires room { array_vec_len memory.old.out + end_room ≤ N }
-        ensures goes { PassGoes end_room piece.old (Within self reader) memory.old.table memory.old.arrivals memory.old.out.items
-            piece.new result memory.new.table memory.new.arrivals memory.new.out.items }
+        requires room { out.old.count + end_room ≤ length out.old.bytes.now }
+        ensures goes { PassGoes end_room piece.old (Within self reader) memory.old out.old piece.new result memory.new out.new }
+        ensures same_memory { SameMemory memory.old memory.new }
         ensures further { piece.old.next < piece.new.next }
     {
         let width = self.line_words();
@@ -77,7 +77,7 @@ impl Running {
             return Program::Within(self, reader);
         }
         piece.advance();
-        self.end_line(reader, memory)
+        self.end_line(reader, memory, out)
     }
 
     // How many words of the arrivals a slot line is read into.
@@ -90,30 +90,27 @@ impl Running {
 
     // A slot line's newline.
     #[tactic(auto, using(crate::specs::Turns::turns_unread))]
-    fn end_line<const N: usize>(self, reader: SlotReader, memory: &mut Memory<N>) -> Program
-        requires { array_vec_len memory.old.out + end_room ≤ N }
-        ensures { Turns (on_newline (state_of self memory.old.table) (line_of self reader memory.old.arrivals)) memory.old.out.items
-            result memory.new.table memory.new.out.items }
+    fn end_line(self, reader: SlotReader, memory: &mut Memory<'_>, out: &mut Page<'_>) -> Program
+        requires { out.old.count + end_room ≤ length out.old.bytes.now }
+        ensures turns { Turns (on_newline (state_of self memory.old.table.now) (line_of self reader memory.old.arrivals.now)) out.old
+            result memory.new.table.now out.new }
+        ensures same_memory { SameMemory memory.old memory.new }
     {
         let width = self.line_words();
         if !reader.finish(&mut memory.arrivals[..width]) {
-            self.put_end(&memory.table, &mut memory.out);
+            self.put_end(memory.table, out);
             return Program::Over;
         }
         let words = &memory.arrivals[..width];
-        self.slot(&mut memory.table, words, &mut memory.out)
+        self.slot(memory.table, words, out)
     }
 
     // One slot with a line's words, and with two lists of the lengths that go with the numbers. Where it is refused the numbers stay as they were,
     // so the next line is tried at the same slot.
-    fn slot<const N: usize>(
-        self,
-        table: &mut [u32; TABLE_WORDS],
-        arrivals: &[u32],
-        out: &mut ArrayVec<u8, N>,
-    ) -> Program
-        requires { array_vec_len out.old + end_room ≤ N }
-        ensures { Turns (on_words (state_of self table.old) arrivals.now) out.old.items result table.new out.new.items }
+    fn slot(self, table: &mut [u32], arrivals: &[u32], out: &mut Page<'_>) -> Program
+        requires table_long { length table.old ≡ lent_table_words }
+        requires room { out.old.count + end_room ≤ length out.old.bytes.now }
+        ensures { Turns (on_words (state_of self table.old) arrivals.now) out.old result table.new out.new }
     {
         let numbers = self.crossbar.numbers;
         let ports = numbers.ports as usize;
@@ -132,27 +129,20 @@ impl Running {
     }
 
     // The last two lines where a line was not read.
-    #[tactic(auto, using(printing::specs::Prints::put_then), unfolding(crate::specs::Program::end_text))]
-    pub(crate) fn put_end<const N: usize>(
-        self,
-        table: &[u32; TABLE_WORDS],
-        out: &mut ArrayVec<u8, N>,
-    )
-        requires { array_vec_len out.old + end_room ≤ N }
-        ensures { Put end_room out.old.items (end_text (state_of self table.now)) out.new.items }
+    pub(crate) fn put_end(self, table: &[u32], out: &mut Page<'_>)
+        requires table_long { length table.now ≡ lent_table_words }
+        requires room { out.old.count + end_room ≤ length out.old.bytes.now }
+        ensures { Put end_room out.old (end_text (state_of self table.now)) out.new }
     {
         printing::put_unreadable(out);
         self.put_held(table, out);
     }
 
     #[tactic(auto, unfolding(crate::specs::Program::held_text))]
-    pub(crate) fn put_held<const N: usize>(
-        self,
-        table: &[u32; TABLE_WORDS],
-        out: &mut ArrayVec<u8, N>,
-    )
-        requires { array_vec_len out.old + line_bytes ≤ N }
-        ensures { Put line_bytes out.old.items (held_text (state_of self table.now)) out.new.items }
+    pub(crate) fn put_held(self, table: &[u32], out: &mut Page<'_>)
+        requires table_long { length table.now ≡ lent_table_words }
+        requires room { out.old.count + line_bytes ≤ length out.old.bytes.now }
+        ensures { Put line_bytes out.old (held_text (state_of self table.now)) out.new }
     {
         let live = switch::held(&table[..self.words]);
         printing::put_held(out, live as u32);

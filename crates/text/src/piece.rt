@@ -6,7 +6,7 @@ ghost use Rattle.text.specs.Parts.{ends};
 use characters::{NEWLINE, SPACE};
 
 // A piece of the input, and the first of its bytes that was not taken.
-#[derive(Debug, Drop)]
+#[derive(Clone, Copy, Debug)]
 pub struct Piece<'a> {
     bytes: &'a [u8],
     next: usize,
@@ -26,6 +26,13 @@ impl<'a> Piece<'a> {
 impl Piece<'_> {
     ghost use Rattle.std.specs.Prelude.{◌+◌, ◌<◌, cond, eqb, is_some, ltb, slice_get};
     ghost use Rattle.text.specs.Parts.{is_byte, is_end, Upto};
+
+    // How many of its bytes were taken.
+    pub fn position(&self) -> usize
+        ensures { result ≡ self.now.next }
+    {
+        self.next
+    }
 
     // Whether every byte was taken.
     pub fn is_empty(&self) -> bool

@@ -13,7 +13,7 @@ some_same e = cc
 
 pub returns-in-First-clause-goes : goal.returns-in-First-clause-goes
 unfolding coming_by
-returns-in-First-clause-goes g c =
+returns-in-First-clause-goes c =
     let p = c.args.piece.now in
     let q = c.next_byte.new.self in
     let there = slice_get-get_or p.bytes.now p.next 0 c.requires.more in
@@ -21,15 +21,15 @@ returns-in-First-clause-goes g c =
     let byte : get_or p.bytes.now p.next 0 ≡ c.unwrap-byte.result = some_same (sym some ∙ c.unwrap-byte.ensures) in
     let next : q.next ≡ p.next + 1 = rw some at c.next_byte.ensures.next in
     let step : Steps p q = record { bytes = c.next_byte.ensures.same_bytes; next = next } in
-    rw c.in-First.is (goes_byte _ _ c.requires.more byte step c.first_step.ensures (omega arith))
+    rw c.in-First.is (goes_byte _ _ c.requires.more byte step c.first_step.ensures.turns (omega arith))
 
 pub returns-in-Between-clause-goes : goal.returns-in-Between-clause-goes
-returns-in-Between-clause-goes g c =
+returns-in-Between-clause-goes c =
     let begun = rw c.start.ensures at c.advance.ensures.goes in
-    rw c.in-Between.is (goes_begins c.in-Between.running (omega arith) c.requires.more begun)
+    rw c.in-Between.is (goes_begins c.in-Between.running c.args.memory.now.line_long c.requires.more begun)
 
 pub returns-in-Over-clause-goes : goal.returns-in-Over-clause-goes
-returns-in-Over-clause-goes g c =
+returns-in-Over-clause-goes c =
     let p = c.args.piece.now in
     let a = c.skip_all.ensures in
     rw c.in-Over.is (goes_over _ p c.skip_all.new.self _ _ _ a.same_bytes (omega (arith, a.next, p.inside)))

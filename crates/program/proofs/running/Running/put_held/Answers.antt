@@ -4,10 +4,10 @@ use Rattle.program.specs.Turns.{live_small}
 use Rattle.program.proofs.running.Running.put_held.Goals as goal
 
 pub overflow_cast-live : goal.overflow_cast-live
-overflow_cast-live g c =
+overflow_cast-live c =
     omega (
       arith,
       c.held-live.ensures,
       live_small (take c.args.self.words c.args.table.now),
-      length-take-le c.args.self.words c.args.table.now (omega arith),
+      length-take-le c.args.self.words c.args.table.now (omega (arith, c.args.self.lent, c.requires.table_long)),
     )

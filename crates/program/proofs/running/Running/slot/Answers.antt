@@ -16,16 +16,16 @@ blanks x = record {
 }
 
 pub invariant_of-result : goal.invariant_of-result
-invariant_of-result g c =
+invariant_of-result c =
     let x = c.args.self in
     let o = on_blank x c.args.table.now c.args.arrivals.now _ _ _ c.slot-answer.ensures (blanks x) in
     let z = sizes_after x c.args.table.now c.args.arrivals.now _ o in
     record { ports = omega (arith, z.0, x.ports); speedup = omega (arith, z.1, x.speedup); lent = x.lent }
 
 pub returns : goal.returns
-returns g c =
+returns c =
     let x = c.args.self in
     let a = c.args in
     let o = on_blank x a.table.now a.arrivals.now _ _ _ c.slot-answer.ensures (blanks x) in
-    let own = length-take-le x.words a.table.now (omega (arith, x.lent, c.told-table)) in
+    let own = length-take-le x.words a.table.now (omega (arith, x.lent, c.requires.table_long)) in
     turns_line x _ a.table.now a.arrivals.now _ _ o refl refl (c.slot-answer.auto.table ∙ own) c.put_outcome.ensures
