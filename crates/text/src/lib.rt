@@ -13,8 +13,8 @@ mod number;
 mod piece;
 
 use characters::SPACE;
-use field::Field;
-use number::Number;
+pub use field::{Arrival, Field};
+pub use number::Number;
 pub use piece::Piece;
 use rules::ARRIVAL_WORDS;
 
